@@ -1,0 +1,3 @@
+pub mod Ranges
+pub mod Ladder
+pub mod Plain

@@ -1,0 +1,12 @@
+-- The characters that a root may have. Assumes nothing.
+use mathlib.Core.Path.{_≡_}
+use mathlib.Core.Bool.{Bool, true, _&&_, _||_}
+use Prim.Native.Nat.{ℕ}
+use lib.Dec.{leb}
+
+-- A to Z or 0 to 9
+abbrev pub letter : ℕ → Bool
+letter c = (leb 65 c && leb c 90) || (leb 48 c && leb c 57)
+
+abbrev pub RootRange : ℕ → ℕ → ℕ → Type 0
+RootRange first second third = (letter first ≡ true) × (letter second ≡ true) × (letter third ≡ true)

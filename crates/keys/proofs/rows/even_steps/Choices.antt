@@ -1,0 +1,5 @@
+use Rattle.keys.proofs.Stepwise.{Steady}
+use Rattle.keys.proofs.rows.even_steps.Given as given
+
+abbrev pub Inv-loop-i : given.InvT-loop-i
+Inv-loop-i g l = Steady (g .K·SpacedKey .gap) (l .row) (l .i)
