@@ -1,3 +1,4 @@
 pub mod Same
 pub mod Lawful
 pub mod Rungs
+pub mod InRange

@@ -12,7 +12,7 @@ use keys::key::by_number;
 use keys::month::Month;
 use keys::month::MonthKey;
 
-pub fn root_of(contract: &Contract) -> Root
+fn root_of(contract: &Contract) -> Root
     ensures { λ r. ⌜ r ≡ rootOf (now (contract .entry)) ⌝ }
 {
     match contract {

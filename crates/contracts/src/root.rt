@@ -12,7 +12,7 @@ pub struct Root {
 }
 
 // A to Z or 0 to 9.
-pub fn is_letter(c: u8) -> bool
+fn is_letter(c: u8) -> bool
     ensures { λ r. ⌜ r ≡ letter c ⌝ }
 {
     (c >= b'A' && c <= b'Z') || (c >= b'0' && c <= b'9')

@@ -5,9 +5,10 @@ use mathlib.Core.Logic.{⊎-elim}
 use Prim.Native.Nat.{ℕ, zero, suc, _+_, _-_, _<_, _≤_}
 use native.Mathlib.Numerals.{add-one}
 use native.Mathlib.Omega.{arith}
-use lib.IntN.{ℤ}
+use lib.IntN.{ℤ, pos, _+ℤ_, _*ℤ_}
 use lib.ListN.{length, getD}
 use Rattle.std.proofs.shelf.Lists.{getD-read}
+use Rattle.std.proofs.shelf.Signed.{ints}
 use Rattle.std.proofs.shelf.Tests.{cases-lt}
 use Rattle.keys.specs.Rows.{Rising, Ascending, Even}
 use Rattle.keys.specs.declared.key.Order.{Order}
@@ -26,26 +27,33 @@ module _ {K : Type 0} (order : K → K → Order) (transitive : (x y z : K) → 
   pub ascends : (row : List K) → Rising order row → Ascending order row
   ascends row h = climbs row h
 
--- each step is the one before it
-abbrev pub Steady : {K : Type 0} → (K → K → ℤ) → List K → ℕ → Type 0
-Steady {K} gap row n = (i : ℕ) (d : K) → i + 2 < n → gap (getD row i d) (getD row (i + 1) d) ≡ gap (getD row (i + 1) d) (getD row (i + 2) d)
+-- each inner key below n lies halfway between its neighbours
+abbrev pub Halved : {K : Type 0} → (K → K → ℤ) → List K → ℕ → Type 0
+Halved {K} gap row n = (i : ℕ) (d : K) → i + 2 < n → gap (getD row i d) (getD row (i + 2) d) ≡ pos 2 *ℤ gap (getD row i d) (getD row (i + 1) d)
 
-module _ {K : Type 0} (gap : K → K → ℤ) where
-  first-step : (row : List K) → Steady gap row (length row) → (i : ℕ) (d : K) → i + 1 < length row → gap (getD row i d) (getD row (i + 1) d) ≡ gap (getD row 0 d) (getD row 1 d)
+module _ {K : Type 0} (gap : K → K → ℤ) (adds : (x y z : K) → gap x z ≡ gap x y +ℤ gap y z) where
+  step : (x y z : K) → gap x z ≡ pos 2 *ℤ gap x y → gap y z ≡ gap x y
+  step x y z e = omega (arith, ints, adds x y z)
+
+  half : (x y z : K) → gap x y ≡ gap y z → gap x z ≡ pos 2 *ℤ gap x y
+  half x y z e = omega (arith, ints, adds x y z)
+
+  first-step : (row : List K) → Halved gap row (length row) → (i : ℕ) (d : K) → i + 1 < length row → gap (getD row i d) (getD row (i + 1) d) ≡ gap (getD row 0 d) (getD row 1 d)
   first-step row h zero d p = refl
   first-step row h (suc i) d p =
       let one : i + 1 ≡ suc i = omega arith in
       let two : i + 2 ≡ suc i + 1 = omega arith in
-      let s = h i d (omega arith) in
+      let s = step (getD row i d) (getD row (i + 1) d) (getD row (i + 2) d) (h i d (omega arith)) in
       let t : gap (getD row (suc i) d) (getD row (suc i + 1) d) ≡ gap (getD row i d) (getD row (i + 1) d) =
-      sym (subst (λ (k : ℕ). gap (getD row i d) (getD row (i + 1) d) ≡ gap (getD row (suc i) d) (getD row k d)) two (subst (λ (k : ℕ). gap (getD row i d) (getD row (i + 1) d) ≡ gap (getD row k d) (getD row (i + 2) d)) one s)) in
+      subst (λ (k : ℕ). gap (getD row (suc i) d) (getD row k d) ≡ gap (getD row i d) (getD row (i + 1) d)) two
+      (subst (λ (k : ℕ). gap (getD row k d) (getD row (i + 2) d) ≡ gap (getD row i d) (getD row (i + 1) d)) one s) in
       t ∙ first-step row h i d (omega arith)
 
-  pub evens : (row : List K) → Steady gap row (length row) → Even gap row
+  pub evens : (row : List K) → Halved gap row (length row) → Even gap row
   evens row h i j d p q = first-step row h i d p ∙ sym (first-step row h j d q)
 
   -- three keys as they are read at i
-  pub even-here : (row : List K) (i : ℕ) (x y z : K) → 2 ≤ i → i < length row → x ≡ getD row (i - 2) x → y ≡ getD row (i - 1) y → z ≡ getD row i z → Even gap row → gap x y ≡ gap y z
+  pub even-here : (row : List K) (i : ℕ) (x y z : K) → 2 ≤ i → i < length row → x ≡ getD row (i - 2) x → y ≡ getD row (i - 1) y → z ≡ getD row i z → Even gap row → gap x z ≡ pos 2 *ℤ gap x y
   even-here row i x y z low high p q r even =
       let one : i - 2 + 1 ≡ i - 1 = omega arith in
       let two : i - 1 + 1 ≡ i = omega arith in
@@ -55,4 +63,5 @@ module _ {K : Type 0} (gap : K → K → ℤ) where
       let f : gap (getD row (i - 2) x) (getD row (i - 1) x) ≡ gap (getD row (i - 1) x) (getD row i x) =
       subst (λ (k : ℕ). gap (getD row (i - 2) x) (getD row (i - 1) x) ≡ gap (getD row (i - 1) x) (getD row k x)) two
       (subst (λ (k : ℕ). gap (getD row (i - 2) x) (getD row k x) ≡ gap (getD row (i - 1) x) (getD row (i - 1 + 1) x)) one e) in
-      cc
+      let g : gap x y ≡ gap y z = cc in
+      half x y z g

@@ -1,6 +1,7 @@
 // The two tests that are written once for all keys.
 ghost use mathlib.Core.Path.{_≡_};
 ghost use mathlib.Core.Bool.{true};
+ghost use lib.IntN.{pos, _*ℤ_};
 ghost use Rattle.std.specs.Orderings.{Decides};
 ghost use Rattle.keys.specs.Rows.{Rising, Ascending, Even};
 use crate::key::Key;
@@ -23,7 +24,7 @@ pub fn rising<K: Key>(row: &[K]) -> bool
 
 // Whether b lies halfway from a to c. Twice a distance fits, since none passes the greatest of its kind.
 fn halfway<K: SpacedKey>(a: &K, b: &K, c: &K) -> bool
-    ensures { λ r. ⌜ Decides r (gap (now (a .entry)) (now (b .entry)) ≡ gap (now (b .entry)) (now (c .entry))) ⌝ }
+    ensures { λ r. ⌜ Decides r (gap (now (a .entry)) (now (c .entry)) ≡ pos 2 *ℤ gap (now (a .entry)) (now (b .entry))) ⌝ }
 {
     a.distance(c) == 2 * a.distance(b)
 }

@@ -1,0 +1,5 @@
+pub mod Kept
+pub mod Lines
+pub mod Refusals
+pub mod Refused
+pub mod Scales
