@@ -75,7 +75,7 @@ fn accept(minute: u32, legs: &[PlainLeg]) -> Ticket
 // Accepts a minute and any number of legs, or refuses them.
 pub fn check(minute: u32, legs: &[PlainLeg]) -> Result<Ticket, TicketRefusal>
     ensures refused { λ r. ⌜ ((e : TicketRefusal) → (r ≡ Err e → Refused minute (now (legs .entry)) e) × (Refused minute (now (legs .entry)) e → r ≡ Err e)) ⌝ }
-    ensures accepted { λ r. ⌜ made r (TicketOf (now (legs .entry))) ⌝ }
+    ensures accepted { λ r. ⌜ made r (λ t. Clear minute (now (legs .entry)) × TicketOf (now (legs .entry)) t) ⌝ }
 {
     refuse_first(minute, legs)?;
     Ok(accept(minute, legs))

@@ -1,0 +1,7 @@
+pub mod Front
+pub mod Letters
+pub mod Numbers
+pub mod Parts
+pub mod Terms
+pub mod Legs
+pub mod Back
