@@ -117,7 +117,7 @@ parts-at market leg text h =
       reference-at market (leg .reference) (h .reference) (h .reference-is),
     )
 
-whole-past : {X : Type 0} (r : Read X) (x : X) → whole r ≡ Ok x → r ≡ Ok (x, [])
+pub whole-past : {X : Type 0} (r : Read X) (x : X) → whole r ≡ Ok x → r ≡ Ok (x, [])
 whole-past (Ok got) x e =
     elim (cond-ways (eqb (length (got .1)) 0) _ _ _ e) [
       | inl h ↦ let n = nil-from-length (got .1) (eqb-true _ 0 (h .0)) in let same : got .0 ≡ x = cc in λ i. Ok (same i, n i)

@@ -5,3 +5,4 @@ pub mod Parts
 pub mod Terms
 pub mod Legs
 pub mod Back
+pub mod Fields

@@ -1,7 +1,7 @@
 // The session script: its lines read, and answered.
 pub mod answer;
 pub mod line;
-pub mod read;
+mod read;
 pub mod session;
 pub mod text;
 mod words;

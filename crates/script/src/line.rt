@@ -32,7 +32,7 @@ pub struct Trouble {
 }
 
 #[derive(Drop)]
-pub enum Line {
+pub(crate) enum Line {
     PassedOver,
     Market(Reference),
     Ticket { minute: u32, legs: Vec<PlainLeg> },

@@ -166,7 +166,7 @@ fn call_of(word: &[u8]) -> Call
 }
 
 // What a line says, with or without its line feed.
-pub fn read_line(heap: Global, line: &[u8], market: &Reference) -> Result<Line, AllocError>
+pub(crate) fn read_line(heap: Global, line: &[u8], market: &Reference) -> Result<Line, AllocError>
     ensures { λ r. ⌜ made r (λ l. LineReads (now (market .entry)) (words (bodyOf (now (line .entry)))) (meaning l)) ⌝ }
 {
     let mut rest = Words { rest: body(line) };

@@ -5,7 +5,7 @@ ghost use lib.ListN.{length, getD};
 ghost use Rattle.std.specs.Orderings.{Decides};
 ghost use Rattle.std.specs.Results.{Cases as ByOk};
 ghost use Rattle.contracts.specs.Plain.{ContractInRange, LegInRange};
-ghost use Rattle.tickets.specs.Lines.{Holds, Nowhere, First, Repeats, Halts, noLeg};
+ghost use Rattle.tickets.specs.Lines.{Holds, Nowhere, First, Repeats, Halts, legAt};
 use crate::refusal::LegLine;
 use crate::refusal::TicketRefusal;
 use contracts::plain::PlainContract;
@@ -61,18 +61,19 @@ fn halted(state: State) -> bool
     }
 }
 
-// Whether a line is true of leg i.
-fn holds(line: LegLine, minute: u32, legs: &[PlainLeg], i: usize) -> bool
-    requires { ⌜ i < length (now legs) ⌝ }
+// Whether a line is true of a leg, the one at i.
+fn holds(line: LegLine, minute: u32, legs: &[PlainLeg], i: usize, leg: &PlainLeg) -> bool
+    requires within { ⌜ i < length (now legs) ⌝ }
+    requires same { ⌜ now leg ≡ legAt (now legs) i ⌝ }
     ensures { λ r. ⌜ Decides r (Holds line minute (now (legs .entry)) i) ⌝ }
 {
-    let one = legs[0].reference;
-    let own = legs[i].reference;
+    let first = legs[0].reference;
+    let own = leg.reference;
     match line {
-        LegLine::Range => !in_range(&legs[i]),
+        LegLine::Range => !in_range(leg),
         LegLine::Repeat => repeats(legs, i),
-        LegLine::Core => own.core != one.core,
-        LegLine::LotOrTick => own.lot_size != one.lot_size || own.tick != one.tick,
+        LegLine::Core => own.core != first.core,
+        LegLine::LotOrTick => own.lot_size != first.lot_size || own.tick != first.tick,
         LegLine::Halted => halted(own.state),
         LegLine::Late => minute > own.session_end.saturating_sub(30),
     }
@@ -84,8 +85,8 @@ pub(crate) fn refuse(line: LegLine, minute: u32, legs: &[PlainLeg]) -> Result<()
         (λ _. Nowhere line minute (now (legs .entry)))
         (λ e. First line minute (now (legs .entry)) e) ⌝ }
 {
-    for (i, _leg) in legs.iter().enumerate() {
-        if holds(line, minute, legs, i) {
+    for (i, leg) in legs.iter().enumerate() {
+        if holds(line, minute, legs, i, leg) {
             return Err(TicketRefusal::Leg { line, leg: i + 1 });
         }
     }

@@ -9,7 +9,7 @@ returns-then-not-halfway g c = (
   λ e. absurd (false≢true e),
   λ even.
       c .if-not-halfway .ensures tt .1
-      (even-here (g .K·SpacedKey .gap) (g .K·SpacedKey·met .adds) (c .args .row .now) (c .loop-i .i) _ _ _ (c .loop-i .kept .i) (c .loop-i-test .taken) (c .index-row-i .is) (c .index-row-i-in-loop-i .is) (c .index-row-i-in-loop-i-2 .is) even),
+      (even-here (g .K·SpacedKey .gap) (g .K·SpacedKey·met .adds) (c .args .row .now) (c .loop-i .i) _ _ _ (omega arith) (c .loop-i-test .taken) (c .index-row-i .is) (c .index-row-i-in-loop-i .is) (c .index-row-i-in-loop-i-2 .is) even),
 )
 
 pub returns : need.returns
