@@ -7,7 +7,7 @@ use Rattle.keys.specs.Ranges.{StrikeRange, MonthRange, monthIndex}
 use Rattle.keys.specs.declared.strike.Strike.{Strike}
 use Rattle.keys.specs.declared.month.Month.{Month}
 
-abbrev strike : (a : ℕ) → StrikeRange a → Strike
+abbrev pub strike : (a : ℕ) → StrikeRange a → Strike
 strike a r = record { hundredths = a; range = r }
 
 strike-range : (a : ℕ) (p q : StrikeRange a) → p ≡ q
@@ -17,7 +17,7 @@ pub same-strike : (x y : Strike) → x .hundredths ≡ y .hundredths → x ≡ y
 same-strike x y e =
     subst (λ (b : ℕ). (r : StrikeRange b) → x ≡ strike b r) e (λ r. ap (strike (x .hundredths)) (strike-range (x .hundredths) (x .range) r)) (y .range)
 
-abbrev month-of : (y m : ℕ) → MonthRange y m → Month
+abbrev pub month-of : (y m : ℕ) → MonthRange y m → Month
 month-of y m r = record { year = y; month = m; range = r }
 
 month-range : (y m : ℕ) (p q : MonthRange y m) → p ≡ q

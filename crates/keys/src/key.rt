@@ -63,6 +63,9 @@ pub trait SpacedKey: Key {
 
     law far: { (x y : Self) → negℤ (pos greatest) ≤ℤ gap x y };
 
+    // Two keys of the kind stand that far apart.
+    law reached: { (x : Self) × (y : Self) × (gap x y ≡ pos greatest) };
+
     // Twice a distance fits a signed number of 32 bits.
     law small: { greatest + greatest < 2 ^ 31 };
 

@@ -1,3 +1,4 @@
 pub mod Printed
 pub mod Ratios
+pub mod Saying
 pub mod Split

@@ -12,6 +12,7 @@ use Rattle.tickets.specs.Refusals.{ticketFault}
 use Rattle.tickets.specs.declared.fault.Fault.{Fault}
 use Rattle.tickets.specs.declared.refusal.TicketRefusal.{TicketRefusal}
 use Rattle.script.specs.Lines.{Reading, passed, market, ticket, unreadable, LineReads}
+use Rattle.script.specs.Says.{Says}
 use Rattle.script.specs.Words.{words, bodyOf}
 use Rattle.script.specs.declared.answer.Answer.{Answer}
 use Rattle.script.specs.declared.answer.Answer.the-variants as answer
@@ -38,6 +39,7 @@ AnswerTo before (market reference) o after = (o ≡ Some answer.Market) × (afte
 AnswerTo before (ticket minute legs) o after = ((a : Answer) × TicketAnswer minute legs a × (o ≡ Some a)) × (after ≡ before)
 AnswerTo before (unreadable t) o after = (o ≡ Some (answer.Unreadable t)) × (after ≡ before)
 
--- the answer to a line
+-- the answer to a line: to what its words say by the grammar, as they are read
 abbrev pub Answered : Reference → List ℕ → Option Answer → Reference → Type 0
-Answered before line o after = (r : Reading) × LineReads before (words (bodyOf line)) r × AnswerTo before r o after
+Answered before line o after =
+    (r : Reading) × (LineReads before (words (bodyOf line)) r × Says before (words (bodyOf line)) r) × AnswerTo before r o after

@@ -1,6 +1,5 @@
 -- What a line of the script says. Assumes nothing.
 use mathlib.Core.Path.{_≡_}
-use mathlib.Core.Logic.{_⊎_}
 use mathlib.Core.List.{List, [], _∷_, _++_}
 use Prim.Native.Nat.{ℕ, _+_}
 use lib.Chars.{codes}
@@ -107,11 +106,15 @@ abbrev pub minuteField : List (List ℕ) → Read ℕ
 minuteField [] = Err (trouble 2 MissingWord)
 minuteField (w ∷ ws) = minuteOr ws (whole (number part.End w))
 
+-- a leg that was read, or the trouble with its word
+abbrev pub legOr : ℕ → (PlainLeg → Reading) → Result PlainLeg LegPart → Reading
+legOr word next (Ok leg) = next leg
+legOr word next (Err p) = unreadable (trouble word (Part p))
+
 -- each further word is a leg; the first that is not makes the line unreadable
 abbrev pub ticketAfter : Reference → ℕ → List PlainLeg → List (List ℕ) → Reading
 ticketAfter ref minute legs [] = ticket minute legs
-ticketAfter ref minute legs (w ∷ ws) =
-    elim (readLeg ref w) [ Ok leg ↦ ticketAfter ref minute (legs ++ leg ∷ []) ws | Err p ↦ unreadable (trouble (length legs + 3) (Part p)) ]
+ticketAfter ref minute legs (w ∷ ws) = legOr (length legs + 3) (λ leg. ticketAfter ref minute (legs ++ leg ∷ []) ws) (readLeg ref w)
 
 abbrev pub legsOr : Reference → Read ℕ → Reading
 legsOr ref (Ok got) = ticketAfter ref (got .0) [] (got .1)

@@ -5,6 +5,7 @@ ghost use lib.ListN.{getD};
 ghost use Rattle.std.specs.Orderings.{Decides};
 ghost use Rattle.std.specs.Vec.{made};
 ghost use Rattle.script.specs.Words.{words, bodyOf};
+ghost use Rattle.script.specs.Says.{Says};
 ghost use Rattle.script.specs.Lines.{Reads, numberField, stateField, minuteField, ended, readMarket, ticketAfter, readTicket, Names, LineReads, meaning};
 use crate::line::Call;
 use crate::line::Line;
@@ -165,8 +166,7 @@ fn call_of(word: &[u8]) -> Call
     }
 }
 
-// What a line says, with or without its line feed.
-pub(crate) fn read_line(heap: Global, line: &[u8], market: &Reference) -> Result<Line, AllocError>
+fn line_of(heap: Global, line: &[u8], market: &Reference) -> Result<Line, AllocError>
     ensures { λ r. ⌜ made r (λ l. LineReads (now (market .entry)) (words (bodyOf (now (line .entry)))) (meaning l)) ⌝ }
 {
     let mut rest = Words { rest: body(line) };
@@ -185,4 +185,11 @@ pub(crate) fn read_line(heap: Global, line: &[u8], market: &Reference) -> Result
             what: What::UnknownCall,
         })),
     }
+}
+
+// What a line says, with or without its line feed.
+pub(crate) fn read_line(heap: Global, line: &[u8], market: &Reference) -> Result<Line, AllocError>
+    ensures { λ r. ⌜ made r (λ l. LineReads (now (market .entry)) (words (bodyOf (now (line .entry)))) (meaning l) × Says (now (market .entry)) (words (bodyOf (now (line .entry)))) (meaning l)) ⌝ }
+{
+    line_of(heap, line, market)
 }

@@ -22,7 +22,7 @@ use tickets::ticket::Ticket;
 // The market is the reference data of a leg that leaves its own out.
 #[derive(Clone, Copy)]
 pub struct Session {
-    pub market: Reference,
+    pub(crate) market: Reference,
 }
 
 // The ticket, or the one fault that every refusal comes to.

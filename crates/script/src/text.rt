@@ -90,7 +90,7 @@ fn market_text(heap: Global, number: u64) -> Result<String, AllocError>
 fn ticket_text(heap: Global, number: u64, ticket: &Ticket) -> Result<String, AllocError>
     ensures { λ r. ⌜ made r (λ s. string-bytes s ≡ ticketText number (now (ticket .entry))) ⌝ }
 {
-    let scale = ticket.scale;
+    let scale = ticket.scale();
     let ratios = ratios_text(heap, ticket.legs())?;
     format!(heap, "{number} ticket {scale} {ratios}")
 }

@@ -49,6 +49,6 @@ pub record TicketOf (legs : List PlainLeg) (t : Ticket) : Type 0 where
   pub count : length (legsOf t) ≡ length legs
   pub keeps : (i : ℕ) (d : Leg) → i < length legs → Keeps (t .scale) (legAt legs i) (getD (legsOf t) i d)
   pub scale : Scale legs (t .scale)
-  pub core : (i : ℕ) → i < length legs → legAt legs i .reference .core ≡ t .core
-  pub lot-size : (i : ℕ) → i < length legs → legAt legs i .reference .«lot_size» ≡ t .«lot_size»
-  pub tick : (i : ℕ) → i < length legs → legAt legs i .reference .tick ≡ t .tick
+  pub core : (i : ℕ) → i < length legs → legAt legs i .reference .core ≡ t .shared .core
+  pub lot-size : (i : ℕ) → i < length legs → legAt legs i .reference .«lot_size» ≡ t .shared .«lot_size»
+  pub tick : (i : ℕ) → i < length legs → legAt legs i .reference .tick ≡ t .shared .tick

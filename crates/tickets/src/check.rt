@@ -12,6 +12,7 @@ use crate::lines::refuse;
 use crate::refusal::LegLine;
 use crate::refusal::TicketRefusal;
 use crate::scale::scale_of;
+use crate::ticket::Shared;
 use crate::ticket::Ticket;
 use contracts::leg::Leg;
 use contracts::plain::PlainLeg;
@@ -62,13 +63,16 @@ fn accept(minute: u32, legs: &[PlainLeg]) -> Ticket
         row[i] = kept(leg, scale);
     }
     let reference = legs[0].reference;
+    let shared = Shared {
+        core: reference.core,
+        lot_size: reference.lot_size,
+        tick: reference.tick,
+    };
     Ticket {
         legs: row,
         count: legs.len(),
         scale,
-        core: reference.core,
-        lot_size: reference.lot_size,
-        tick: reference.tick,
+        shared,
     }
 }
 
@@ -87,5 +91,17 @@ impl Ticket {
         ensures { λ r. ⌜ now r ≡ legsOf (now (self .entry)) ⌝ }
     {
         &self.legs[0..self.count]
+    }
+
+    pub fn scale(&self) -> u32
+        ensures { λ r. ⌜ r ≡ now (self .entry) .scale ⌝ }
+    {
+        self.scale
+    }
+
+    pub fn shared(&self) -> Shared
+        ensures { λ r. ⌜ r ≡ now (self .entry) .shared ⌝ }
+    {
+        self.shared
     }
 }
