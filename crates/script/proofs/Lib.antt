@@ -1,3 +1,5 @@
+pub mod Five
+pub mod Keeping
 pub mod Printed
 pub mod Ratios
 pub mod Saying

@@ -20,8 +20,8 @@ use Rattle.notation.specs.declared.part.LegPart.{LegPart}
 use Rattle.notation.specs.declared.part.LegPart.the-variants as part
 use Rattle.notation.proofs.Fields.{number-told, state-told}
 use Rattle.notation.proofs.Legs.{spelled-from-read, read-from-spelled}
-use Rattle.script.specs.Lines.{Reading, passed, market, ticket, unreadable, Read, andThen, placed, numberField, stateField, ended, marketFields, first, readMarket, marketOr, minuteOr, minuteField, legOr, ticketAfter, legsOr, readTicket, Names, readAs, LineReads, trouble}
-use Rattle.script.specs.Says.{PassedOver, MarketLine, LegsSpelled, TicketLine, Says}
+use Rattle.script.specs.Lines.{Reading, passed, market, ticket, unreadable, Read, andThen, placed, numberField, stateField, ended, marketFields, first, readMarket, marketOr, minuteOr, minuteField, legOr, ticketAfter, legsOr, readTicket, Names, readAs, LineKept, trouble}
+use Rattle.script.specs.Says.{PassedOver, MarketLine, LegsSpelled, TicketLine, Says, LineSays}
 use Rattle.script.specs.declared.line.Call.{Call}
 use Rattle.script.specs.declared.line.Call.the-variants as call
 use Rattle.script.specs.declared.line.Trouble.{Trouble}
@@ -251,6 +251,11 @@ says-as ref w ws call.Unknown h = (
   λ n legs k. h .2 (head-same w (codes "ticket") ws _ (k .all)),
 )
 
-pub says : (ref : Reference) (ws : List (List ℕ)) (r : Reading) → LineReads ref ws r → Says ref ws r
-says ref [] r h = subst (Says ref []) (sym h) tt
-says ref (w ∷ ws) r h = subst (Says ref (w ∷ ws)) (sym (h .2)) (says-as ref w ws (h .0) (h .1))
+pub kept-says : (ref : Reference) (ws : List (List ℕ)) (k : Reading) → LineKept ref ws k → LineSays ref ws k
+kept-says ref [] k h = record { reading = passed; reads = refl; says = tt; kept = h }
+kept-says ref (w ∷ ws) k h = record {
+  reading = readAs ref (h .0) ws;
+  reads = (h .0, h .1, refl);
+  says = says-as ref w ws (h .0) (h .1);
+  kept = h .2;
+}

@@ -1,4 +1,5 @@
 pub mod Answers
+pub mod Kept
 pub mod Lines
 pub mod Says
 pub mod Texts

@@ -3,8 +3,7 @@ use mathlib.Core.Path.{_≡_}
 use mathlib.Core.List.{List, [], _∷_, _++_}
 use Prim.Native.Nat.{ℕ, _+_}
 use lib.Chars.{codes}
-use lib.ListN.{length, getD}
-use Rattle.std.specs.Of.Vec.{vec-items}
+use lib.ListN.{length, getD, take}
 use Rattle.std.specs.declared.result.Result.{Result}
 use Rattle.std.specs.declared.result.Result.the-variants.{Ok, Err}
 use Rattle.contracts.specs.declared.plain.PlainLeg.{PlainLeg}
@@ -14,6 +13,7 @@ use Rattle.notation.specs.LegReading.{whole, readState, readLeg}
 use Rattle.notation.specs.Reading.{number}
 use Rattle.notation.specs.declared.part.LegPart.{LegPart}
 use Rattle.notation.specs.declared.part.LegPart.the-variants as part
+use Rattle.script.specs.Kept.{keptLegs}
 use Rattle.script.specs.declared.line.Call.{Call}
 use Rattle.script.specs.declared.line.Call.the-variants as call
 use Rattle.script.specs.declared.line.Trouble.{Trouble}
@@ -90,8 +90,15 @@ pub data Reading : Type 0 where
 abbrev pub meaning : Line → Reading
 meaning line.PassedOver = passed
 meaning (line.Market reference) = market reference
-meaning (line.Ticket minute legs) = ticket minute (vec-items legs)
+meaning (line.Ticket minute legs) = ticket minute (keptLegs legs)
 meaning (line.Unreadable t) = unreadable t
+
+-- of a ticket's legs the first five are kept
+abbrev pub keptOf : Reading → Reading
+keptOf passed = passed
+keptOf (market reference) = market reference
+keptOf (ticket minute legs) = ticket minute (take 5 legs)
+keptOf (unreadable t) = unreadable t
 
 abbrev pub marketOr : Result Reference Trouble → Reading
 marketOr (Ok reference) = market reference
@@ -141,3 +148,8 @@ readAs ref call.Unknown ws = unreadable (trouble 1 UnknownCall)
 abbrev pub LineReads : Reference → List (List ℕ) → Reading → Type 0
 LineReads ref [] r = r ≡ passed
 LineReads ref (w ∷ ws) r = (c : Call) × Names w c × (r ≡ readAs ref c ws)
+
+-- what is kept of that
+abbrev pub LineKept : Reference → List (List ℕ) → Reading → Type 0
+LineKept ref [] r = r ≡ passed
+LineKept ref (w ∷ ws) r = (c : Call) × Names w c × (r ≡ keptOf (readAs ref c ws))

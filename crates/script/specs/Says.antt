@@ -8,7 +8,7 @@ use Rattle.contracts.specs.declared.plain.PlainLeg.{PlainLeg}
 use Rattle.contracts.specs.declared.plain.Reference.{Reference}
 use Rattle.notation.specs.Letters.{stateText}
 use Rattle.notation.specs.Spelling.{Number, Spells}
-use Rattle.script.specs.Lines.{Reading, passed, market, ticket, unreadable}
+use Rattle.script.specs.Lines.{Reading, passed, market, ticket, unreadable, keptOf, LineReads}
 
 -- no word, or a first word that begins with `#`
 abbrev pub PassedOver : List (List ℕ) → Type 0
@@ -49,3 +49,10 @@ Says ref ws (market m) = MarketLine m ws
 Says ref ws (ticket minute legs) = TicketLine ref minute legs ws
 Says ref ws (unreadable t) =
     (PassedOver ws → ⊥) × ((m : Reference) → MarketLine m ws → ⊥) × ((minute : ℕ) (legs : List PlainLeg) → TicketLine ref minute legs ws → ⊥)
+
+-- k is what is kept of what the words of a line say
+pub record LineSays (ref : Reference) (ws : List (List ℕ)) (k : Reading) : Type 0 where
+  pub reading : Reading
+  pub reads : LineReads ref ws reading
+  pub says : Says ref ws reading
+  pub kept : k ≡ keptOf reading

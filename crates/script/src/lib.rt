@@ -1,5 +1,7 @@
 // The session script: its lines read, and answered.
 pub mod answer;
+mod keep;
+mod legs;
 pub mod line;
 mod read;
 pub mod session;

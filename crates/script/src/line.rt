@@ -1,5 +1,5 @@
 // What a line of the script says.
-use contracts::plain::PlainLeg;
+use crate::legs::LegRow;
 use contracts::plain::Reference;
 use notation::part::LegPart;
 use notation::part::LegPartEq;
@@ -31,10 +31,10 @@ pub struct Trouble {
     pub what: What,
 }
 
-#[derive(Drop)]
+#[derive(Clone, Copy)]
 pub(crate) enum Line {
     PassedOver,
     Market(Reference),
-    Ticket { minute: u32, legs: Vec<PlainLeg> },
+    Ticket { minute: u32, legs: LegRow },
     Unreadable(Trouble),
 }

@@ -3,10 +3,10 @@ ghost use mathlib.Core.Path.{_≡_};
 ghost use mathlib.Core.List.{[]};
 ghost use lib.ListN.{getD};
 ghost use Rattle.std.specs.Orderings.{Decides};
-ghost use Rattle.std.specs.Vec.{made};
 ghost use Rattle.script.specs.Words.{words, bodyOf};
-ghost use Rattle.script.specs.Says.{Says};
-ghost use Rattle.script.specs.Lines.{Reads, numberField, stateField, minuteField, ended, readMarket, ticketAfter, readTicket, Names, LineReads, meaning};
+ghost use Rattle.script.specs.Says.{LineSays};
+ghost use Rattle.script.specs.Lines.{Reads, numberField, stateField, minuteField, ended, readMarket, ticketAfter, readTicket, Names, LineKept, keptOf, meaning};
+use crate::legs::LegRow;
 use crate::line::Call;
 use crate::line::Line;
 use crate::line::Trouble;
@@ -19,8 +19,6 @@ use notation::field::read_number;
 use notation::field::read_state;
 use notation::part::LegPart;
 use notation::read::read_leg;
-use std::alloc::AllocError;
-use std::alloc::Global;
 
 fn number_field(rest: &mut Words, word: usize, part: LegPart) -> Result<u32, Trouble>
     ensures { λ r. ⌜ Reads (numberField word part) (words (now (rest .entry) .rest .now)) r (words (now (rest .exit) .rest .now)) ⌝ }
@@ -107,36 +105,30 @@ fn minute_field(rest: &mut Words) -> Result<u32, Trouble>
     }
 }
 
-fn read_legs(
-    heap: Global,
-    rest: &mut Words,
-    market: &Reference,
-    minute: u32,
-) -> Result<Line, AllocError>
-    ensures { λ r. ⌜ made r (λ l. meaning l ≡ ticketAfter (now (market .entry)) minute [] (words (now (rest .entry) .rest .now))) ⌝ }
+fn read_legs(rest: &mut Words, market: &Reference, minute: u32) -> Line
+    ensures { λ l. ⌜ meaning l ≡ keptOf (ticketAfter (now (market .entry)) minute [] (words (now (rest .entry) .rest .now))) ⌝ }
 {
-    let mut legs = Vec::new(heap);
+    let mut legs = LegRow::new();
+    let mut word = 3;
     while let Some(text) = rest.next() {
         match read_leg(text, market) {
-            Ok(leg) => legs.push(leg)?,
-            Err(part) => {
-                let word = legs.len() + 3;
-                return Ok(Line::Unreadable(Trouble {
-                    word,
-                    what: What::Part(part),
-                }));
-            }
+            Ok(leg) => legs.keep(leg),
+            Err(part) => return Line::Unreadable(Trouble {
+                word,
+                what: What::Part(part),
+            }),
         }
+        word += 1;
     }
-    Ok(Line::Ticket { minute, legs })
+    Line::Ticket { minute, legs }
 }
 
-fn read_ticket(heap: Global, rest: &mut Words, market: &Reference) -> Result<Line, AllocError>
-    ensures { λ r. ⌜ made r (λ l. meaning l ≡ readTicket (now (market .entry)) (words (now (rest .entry) .rest .now))) ⌝ }
+fn read_ticket(rest: &mut Words, market: &Reference) -> Line
+    ensures { λ l. ⌜ meaning l ≡ keptOf (readTicket (now (market .entry)) (words (now (rest .entry) .rest .now))) ⌝ }
 {
     match minute_field(rest) {
-        Ok(minute) => read_legs(heap, rest, market, minute),
-        Err(trouble) => Ok(Line::Unreadable(trouble)),
+        Ok(minute) => read_legs(rest, market, minute),
+        Err(trouble) => Line::Unreadable(trouble),
     }
 }
 
@@ -166,30 +158,30 @@ fn call_of(word: &[u8]) -> Call
     }
 }
 
-fn line_of(heap: Global, line: &[u8], market: &Reference) -> Result<Line, AllocError>
-    ensures { λ r. ⌜ made r (λ l. LineReads (now (market .entry)) (words (bodyOf (now (line .entry)))) (meaning l)) ⌝ }
+fn line_of(line: &[u8], market: &Reference) -> Line
+    ensures { λ l. ⌜ LineKept (now (market .entry)) (words (bodyOf (now (line .entry)))) (meaning l) ⌝ }
 {
     let mut rest = Words { rest: body(line) };
     let Some(word) = rest.next() else {
-        return Ok(Line::PassedOver);
+        return Line::PassedOver;
     };
     match call_of(word) {
-        Call::Comment => Ok(Line::PassedOver),
+        Call::Comment => Line::PassedOver,
         Call::Market => match read_market(&mut rest) {
-            Ok(reference) => Ok(Line::Market(reference)),
-            Err(trouble) => Ok(Line::Unreadable(trouble)),
+            Ok(reference) => Line::Market(reference),
+            Err(trouble) => Line::Unreadable(trouble),
         },
-        Call::Ticket => read_ticket(heap, &mut rest, market),
-        Call::Unknown => Ok(Line::Unreadable(Trouble {
+        Call::Ticket => read_ticket(&mut rest, market),
+        Call::Unknown => Line::Unreadable(Trouble {
             word: 1,
             what: What::UnknownCall,
-        })),
+        }),
     }
 }
 
 // What a line says, with or without its line feed.
-pub(crate) fn read_line(heap: Global, line: &[u8], market: &Reference) -> Result<Line, AllocError>
-    ensures { λ r. ⌜ made r (λ l. LineReads (now (market .entry)) (words (bodyOf (now (line .entry)))) (meaning l) × Says (now (market .entry)) (words (bodyOf (now (line .entry)))) (meaning l)) ⌝ }
+pub(crate) fn read_line(line: &[u8], market: &Reference) -> Line
+    ensures { λ l. ⌜ LineSays (now (market .entry)) (words (bodyOf (now (line .entry)))) (meaning l) ⌝ }
 {
-    line_of(heap, line, market)
+    line_of(line, market)
 }

@@ -1,10 +1,7 @@
 // A session: the lines of a script, answered one by one.
 ghost use mathlib.Core.Path.{_≡_};
 ghost use Rattle.std.specs.Results.{Cases as ByOk};
-ghost use Rattle.std.specs.Vec.{made, refused};
-ghost use Rattle.tickets.specs.Refused.{Clear, Refused, TicketOf};
-ghost use Rattle.tickets.specs.Refusals.{ticketFault};
-ghost use Rattle.tickets.specs.declared.refusal.TicketRefusal.{TicketRefusal};
+ghost use Rattle.tickets.specs.Refused.{Clear, TicketOf};
 ghost use Rattle.script.specs.Answers.{openingMarket, FaultOf, TicketAnswer, Answered};
 use crate::answer::Answer;
 use crate::line::Line;
@@ -12,8 +9,6 @@ use crate::read::read_line;
 use contracts::plain::PlainLeg;
 use contracts::plain::Reference;
 use contracts::plain::State;
-use std::alloc::AllocError;
-use std::alloc::Global;
 use tickets::check::check;
 use tickets::fault::Fault;
 use tickets::refusal::FaultFromTicket;
@@ -57,18 +52,17 @@ impl Session {
     }
 
     // The answer to a line, or none where the line is passed over.
-    pub fn answer(&mut self, heap: Global, line: &[u8]) -> Result<Option<Answer>, AllocError>
-        ensures answered { λ r. ⌜ made r (λ o. Answered (now (self .entry) .market) (now (line .entry)) o (now (self .exit) .market)) ⌝ }
-        ensures kept { λ r. ⌜ refused r (λ _. now (self .exit) ≡ now (self .entry)) ⌝ }
+    pub fn answer(&mut self, line: &[u8]) -> Option<Answer>
+        ensures { λ o. ⌜ Answered (now (self .entry) .market) (now (line .entry)) o (now (self .exit) .market) ⌝ }
     {
-        match read_line(heap, line, &self.market)? {
-            Line::PassedOver => Ok(None),
+        match read_line(line, &self.market) {
+            Line::PassedOver => None,
             Line::Market(market) => {
                 self.market = market;
-                Ok(Some(Answer::Market))
+                Some(Answer::Market)
             }
-            Line::Ticket { minute, legs } => Ok(Some(answer_ticket(minute, legs.as_slice()))),
-            Line::Unreadable(trouble) => Ok(Some(Answer::Unreadable(trouble))),
+            Line::Ticket { minute, legs } => Some(answer_ticket(minute, legs.as_slice())),
+            Line::Unreadable(trouble) => Some(Answer::Unreadable(trouble)),
         }
     }
 }

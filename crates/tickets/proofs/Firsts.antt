@@ -29,7 +29,7 @@ back LotOrTick = refl
 back Halted = refl
 back Late = refl
 
-low : (l : LegLine) → (6 ≤ legNumber l) × (legNumber l ≤ 11)
+pub low : (l : LegLine) → (6 ≤ legNumber l) × (legNumber l ≤ 11)
 low Range = (omega arith, omega arith)
 low Repeat = (omega arith, omega arith)
 low Core = (omega arith, omega arith)

@@ -5,7 +5,7 @@ use std::alloc::Global;
 use std::test::*;
 
 // Under the market of the start, 1 1 1 T 1439: each refusal at its bounds.
-static BOUNDS: [(&str, &str); 29] = [
+static BOUNDS: [(&str, &str); 38] = [
     (
         "ticket 1439 B1:DOL:F:2019-09 S1:DOL:F:2019-10",
         "1 ticket NO 11 T 1",
@@ -119,6 +119,42 @@ static BOUNDS: [(&str, &str); 29] = [
         "ticket 600 B12:DOL:F:2019-09 S18:DOL:F:2019-10 B30:DOL:F:2019-11 S42:DOL:F:2019-12",
         "1 ticket 6 2,3,5,7",
     ),
+    (
+        "ticket 600 B1:DOL:F:2019-13 S1:DOL:F:2019-10",
+        "1 ticket NO 6 T 1",
+    ),
+    (
+        "ticket 600 B0:DOL:F:2019-09 S1:DOL:F:2019-10",
+        "1 ticket NO 6 T 1",
+    ),
+    (
+        "ticket 600 B1:DOL:P:2019-09:1 S1:DOL:P:2019-09:2@2099-12",
+        "1 ticket 1 1,1",
+    ),
+    (
+        "ticket 600 B1:DOL:P:2019-09:1 S1:DOL:P:2019-09:2@2100-01",
+        "1 ticket NO 6 T 2",
+    ),
+    (
+        "ticket 600 B1:DOL:F:2019-09/0/1/1/T/1439 S1:DOL:F:2019-10",
+        "1 ticket NO 6 T 1",
+    ),
+    (
+        "ticket 600 B1:DOL:F:2019-09/1/0/1/T/1439 S1:DOL:F:2019-10",
+        "1 ticket NO 6 T 1",
+    ),
+    (
+        "ticket 600 B1:DOL:F:2019-09/1/1/0/T/1439 S1:DOL:F:2019-10",
+        "1 ticket NO 6 T 1",
+    ),
+    (
+        "ticket 600 B1:DOL:F:2019-09/1/1/1000001/T/1439 S1:DOL:F:2019-10",
+        "1 ticket NO 6 T 1",
+    ),
+    (
+        "ticket 600 B1:DOL:F:2019-01 B1:DOL:F:2019-02 B1:DOL:F:2019-03 B1:DOL:F:2019-04 B1:DOL:F:2019-05 B0:DOL:F:2019-06",
+        "1 ticket NO 5 T 0",
+    ),
 ];
 
 // Lines that cannot be read, each with the word that is at fault.
@@ -156,7 +192,7 @@ static SILENT: [&str; 5] = ["", "   ", "# ticket 600", "  #", "\r"];
 
 fn answer_starts(heap: Global, line: &str, wanted: &str) -> Result<(), Fail> {
     let mut session = Session::new();
-    let Some(answer) = session.answer(heap, line.as_bytes())? else {
+    let Some(answer) = session.answer(line.as_bytes()) else {
         return check(false).note(line);
     };
     let text = answer_text(heap, 1, &answer)?;
@@ -180,10 +216,10 @@ fn a_damaged_line_tells_the_word(rt: LibcRuntime) -> Result<(), Fail> {
 }
 
 #[test]
-fn some_lines_are_passed_over(rt: LibcRuntime) -> Result<(), Fail> {
+fn some_lines_are_passed_over() -> Result<(), Fail> {
     let mut session = Session::new();
     for line in SILENT.iter() {
-        check(session.answer(rt.alloc(), line.as_bytes())?.is_none()).note(*line)?;
+        check(session.answer(line.as_bytes()).is_none()).note(*line)?;
     }
     Ok(())
 }
@@ -193,10 +229,10 @@ fn some_lines_are_passed_over(rt: LibcRuntime) -> Result<(), Fail> {
 fn the_market_stays(rt: LibcRuntime) -> Result<(), Fail> {
     let heap = rt.alloc();
     let mut session = Session::new();
-    let _ = session.answer(heap, b"market 7 1 1 T 1080\r\n")?;
-    let _ = session.answer(heap, b"market 8 1 1 T\n")?;
+    let _ = session.answer(b"market 7 1 1 T 1080\r\n");
+    let _ = session.answer(b"market 8 1 1 T\n");
     let line = b"ticket 600 B1:DOL:F:2019-09 S1:DOL:F:2019-10/7/1/1/T/1439\n";
-    let Some(answer) = session.answer(heap, line)? else {
+    let Some(answer) = session.answer(line) else {
         return check(false);
     };
     check(answer_text(heap, 3, &answer)?.as_str() == "3 ticket 1 1,1")

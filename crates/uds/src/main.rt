@@ -19,7 +19,7 @@ fn answer_line<W: Write>(
     line: &[u8],
     output: &mut W,
 ) -> Result<bool, AnyError> {
-    let Some(answer) = session.answer(heap, line)? else {
+    let Some(answer) = session.answer(line) else {
         return Ok(true);
     };
     let text = answer_text(heap, number, &answer)?;
