@@ -46,7 +46,7 @@ ContractInRange (plain.Future root month) = RootInRange root × MonthInRange mon
 ContractInRange (plain.Option right root month strike underlying) =
     RootInRange root × MonthInRange month × StrikeRange strike × UnderlyingInRange underlying
 
--- each field of a leg has a range; its side and its state are what they are
+-- each field of a leg that is a number has a range
 pub record LegInRange (leg : PlainLeg) : Type 0 where
   pub contract : ContractInRange (leg .contract)
   pub lots : (1 ≤ leg .lots) × (leg .lots ≤ 9999)

@@ -5,8 +5,8 @@ use Prim.Native.Nat.{ℕ}
 use lib.Dec.{leb}
 
 -- A to Z or 0 to 9
-abbrev pub letter : ℕ → Bool
-letter c = (leb 65 c && leb c 90) || (leb 48 c && leb c 57)
+abbrev pub codeCharacter : ℕ → Bool
+codeCharacter c = (leb 65 c && leb c 90) || (leb 48 c && leb c 57)
 
 abbrev pub RootRange : ℕ → ℕ → ℕ → Type 0
-RootRange first second third = (letter first ≡ true) × (letter second ≡ true) × (letter third ≡ true)
+RootRange first second third = (codeCharacter first ≡ true) × (codeCharacter second ≡ true) × (codeCharacter third ≡ true)

@@ -1,7 +1,7 @@
 // The root of a contract: three characters, each A to Z or 0 to 9.
 ghost use mathlib.Core.Path.{_≡_};
 ghost use Rattle.std.specs.Options.{Cases as BySome};
-ghost use Rattle.contracts.specs.Ranges.{RootRange, letter};
+ghost use Rattle.contracts.specs.Ranges.{RootRange, codeCharacter};
 
 #[derive(Clone, Copy)]
 pub struct Root {
@@ -12,8 +12,8 @@ pub struct Root {
 }
 
 // A to Z or 0 to 9.
-fn is_letter(c: u8) -> bool
-    ensures { λ r. ⌜ r ≡ letter c ⌝ }
+fn is_code_character(c: u8) -> bool
+    ensures { λ r. ⌜ r ≡ codeCharacter c ⌝ }
 {
     (c >= b'A' && c <= b'Z') || (c >= b'0' && c <= b'9')
 }
@@ -22,7 +22,7 @@ impl Root {
     pub fn new(first: u8, second: u8, third: u8) -> Option<Root>
         ensures { λ r. ⌜ BySome r (RootRange first second third → ⊥) (λ t. (t .first ≡ first) × (t .second ≡ second) × (t .third ≡ third)) ⌝ }
     {
-        if is_letter(first) && is_letter(second) && is_letter(third) {
+        if is_code_character(first) && is_code_character(second) && is_code_character(third) {
             Some(Root {
                 first,
                 second,

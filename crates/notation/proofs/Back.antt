@@ -13,7 +13,7 @@ use Rattle.std.proofs.shelf.Numerals.{Numerals, numerals-by-fold}
 use Rattle.std.proofs.shelf.Decimals.{decimal-some, decimal-digit, digits-decimal, value-decimal}
 use Rattle.std.proofs.shelf.Ways.{tells}
 use Rattle.keys.specs.declared.month.Month.{Month}
-use Rattle.contracts.specs.Ranges.{letter}
+use Rattle.contracts.specs.Ranges.{codeCharacter}
 use Rattle.contracts.specs.Plain.{plainRoot, plainMonth, plainUnderlying, plainContract}
 use Rattle.contracts.specs.declared.root.Root.{Root}
 use Rattle.contracts.specs.declared.contract.Underlying.{Underlying}
@@ -54,7 +54,7 @@ month-written m =
       all = simp append-assoc;
     }
 
-character : (c : ℕ) → letter c ≡ true → RootCharacter c
+character : (c : ℕ) → codeCharacter c ≡ true → RootCharacter c
 character c e = (λ is. grind (arith, tells), λ is. grind (arith, tells), λ is. grind (arith, tells))
 
 root-written : (root : Root) → RootSpelled (plainRoot root) (rootText root)

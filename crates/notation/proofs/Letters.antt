@@ -8,11 +8,11 @@ use lib.Chars.{codes}
 use lib.Utf8.{encode}
 use Rattle.std.proofs.shelf.Text.{encode-ascii}
 use Rattle.std.proofs.shelf.Ways.{tells}
-use Rattle.contracts.specs.Ranges.{letter}
+use Rattle.contracts.specs.Ranges.{codeCharacter}
 use Rattle.contracts.specs.declared.root.Root.{Root}
 use Rattle.notation.specs.Writing.{rootText}
 
-pub ascii-letter : (c : ℕ) → letter c ≡ true → c < 128
+pub ascii-letter : (c : ℕ) → codeCharacter c ≡ true → c < 128
 ascii-letter c e = grind (arith, tells)
 
 -- three letters, each as it is shown

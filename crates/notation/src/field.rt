@@ -36,7 +36,7 @@ fn whole_state(text: &[u8]) -> Result<State, LegPart>
     }
 }
 
-// The number that a text spells; `part` is told where it does not begin with one.
+// The number that a text spells. `part` is told where it does not begin with a number below 2^32, and `End` where something follows it.
 pub fn read_number(text: &[u8], part: LegPart) -> Result<u32, LegPart>
     ensures value { λ r. ⌜ r ≡ whole (number part (now (text .entry))) ⌝ }
     ensures spelled { λ r. ⌜ ((n : ℕ) → (r ≡ Ok n → Number n (now (text .entry))) × (Number n (now (text .entry)) → r ≡ Ok n)) ⌝ }

@@ -104,7 +104,7 @@ abbrev pub marketOr : Result Reference Trouble → Reading
 marketOr (Ok reference) = market reference
 marketOr (Err t) = unreadable t
 
--- a minute, whatever is wrong with it otherwise
+-- the minute, or the trouble that its word is no number
 abbrev pub minuteOr : List (List ℕ) → Result ℕ LegPart → Read ℕ
 minuteOr rest (Ok n) = Ok (n, rest)
 minuteOr rest (Err p) = Err (trouble 2 Minute)

@@ -21,7 +21,7 @@ letterOf layer.Ticket = codes "T"
 letterOf layer.Catalogue = codes "C"
 letterOf layer.Register = codes "G"
 
--- a ratio, after a comma but for the first
+-- a ratio, with a comma before each but the first
 abbrev pub piece : ℕ → ℕ → List ℕ
 piece i n = cond (eqb i 0) (decimal n) (codes "," ++ decimal n)
 

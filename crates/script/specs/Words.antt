@@ -9,11 +9,12 @@ use lib.ListN.{length, getD, take}
 abbrev pub space : ℕ → Bool
 space c = eqb c 32
 
--- a character that is no space opens the first word of what follows, or is a word of its own where a space or nothing follows
+-- a character in front of the first word
 abbrev pub onto : ℕ → List (List ℕ) → List (List ℕ)
 onto c [] = (c ∷ []) ∷ []
 onto c (w ∷ ws) = (c ∷ w) ∷ ws
 
+-- a character that is no space: it opens the word that follows, or is a word of its own where a space or nothing follows
 abbrev pub opening : ℕ → List ℕ → List (List ℕ) → List (List ℕ)
 opening c [] ws = (c ∷ []) ∷ ws
 opening c (d ∷ ds) ws = cond (space d) ((c ∷ []) ∷ ws) (onto c ws)

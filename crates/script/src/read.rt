@@ -132,7 +132,7 @@ fn read_ticket(rest: &mut Words, market: &Reference) -> Line
     }
 }
 
-fn is(word: &[u8], name: &[u8]) -> bool
+fn is_word(word: &[u8], name: &[u8]) -> bool
     ensures { λ r. ⌜ Decides r (now (word .entry) ≡ now (name .entry)) ⌝ }
 {
     word == name
@@ -149,9 +149,9 @@ fn call_of(word: &[u8]) -> Call
 {
     if is_comment(word) {
         Call::Comment
-    } else if is(word, b"market") {
+    } else if is_word(word, b"market") {
         Call::Market
-    } else if is(word, b"ticket") {
+    } else if is_word(word, b"ticket") {
         Call::Ticket
     } else {
         Call::Unknown

@@ -26,7 +26,7 @@ fn layer_letter(layer: Layer) -> &'static str
     }
 }
 
-// A ratio, after a comma but for the first.
+// A ratio, with a comma before each but the first.
 fn ratio_text(heap: Global, i: usize, ratio: u32) -> Result<String, AllocError>
     ensures { λ r. ⌜ made r (λ s. string-bytes s ≡ piece i ratio) ⌝ }
 {

@@ -30,6 +30,7 @@ fn in_range(leg: &PlainLeg) -> bool
     ensures { λ r. ⌜ Decides r (LegInRange (now (leg .entry))) ⌝ }
 {
     let reference = leg.reference;
+    // By `&`, so that there is one way through and each field is one fact.
     contract_in_range(&leg.contract)
         & within(leg.lots, 1, 9_999)
         & within(reference.core, 1, 99)
