@@ -1,5 +1,4 @@
 -- A contract's numbers are in range, and they are that contract's alone. Assumes nothing.
-use mathlib.Core.Path.{_≡_, subst}
 use Rattle.contracts.specs.Plain.{plainUnderlying, plainContract, UnderlyingInRange, ContractInRange}
 use Rattle.contracts.specs.declared.contract.Underlying.{Underlying}
 use Rattle.contracts.specs.declared.contract.Underlying.the-variants as on

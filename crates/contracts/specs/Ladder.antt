@@ -1,12 +1,13 @@
 -- Ladder order, in five levels. Assumes nothing.
+use mathlib.Core.List.{List, [], _∷_}
 use Prim.Native.Nat.{ℕ, _+_}
 use Rattle.keys.specs.Orders.{byNumber, thenBy}
 use Rattle.keys.specs.Ranges.{monthIndex}
 use Rattle.keys.specs.declared.key.Order.{Order}
+use Rattle.keys.specs.declared.key.Order.the-variants.{Same}
 use Rattle.keys.specs.declared.month.Month.{Month}
 use Rattle.contracts.specs.declared.root.Root.{Root}
 use Rattle.contracts.specs.declared.contract.Right.the-variants.{Call, Put}
-use Rattle.contracts.specs.declared.contract.Underlying.{Underlying}
 use Rattle.contracts.specs.declared.contract.Underlying.the-variants as on
 use Rattle.contracts.specs.declared.contract.Contract.{Contract}
 use Rattle.contracts.specs.declared.contract.Contract.the-variants.{Future, Option}
@@ -43,8 +44,18 @@ byRoot x y = thenBy (thenBy (byNumber (x .first) (y .first)) (byNumber (x .secon
 abbrev pub byMonth : Month → Month → Order
 byMonth x y = byNumber (monthIndex (x .year) (x .month)) (monthIndex (y .year) (y .month))
 
+-- of orders in a row, the first that tells the two apart
+abbrev pub decided : Order → List Order → Order
+decided order [] = order
+decided order (next ∷ more) = decided (thenBy order next) more
+
+-- the five levels: each counts only where all before it are the same
 abbrev pub ladder : Contract → Contract → Order
 ladder x y =
-    thenBy
-    (thenBy (thenBy (thenBy (byRoot (rootOf x) (rootOf y)) (byNumber (kindRank x) (kindRank y))) (byMonth (monthOf x) (monthOf y))) (byNumber (strikeRank x) (strikeRank y)))
-    (byNumber (underlyingRank x) (underlyingRank y))
+    decided Same
+    (byRoot (rootOf x) (rootOf y)
+    ∷ byNumber (kindRank x) (kindRank y)
+    ∷ byMonth (monthOf x) (monthOf y)
+    ∷ byNumber (strikeRank x) (strikeRank y)
+    ∷ byNumber (underlyingRank x) (underlyingRank y)
+    ∷ [])

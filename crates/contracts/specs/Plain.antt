@@ -1,5 +1,5 @@
 -- A contract as the plain numbers that it was handed in as, and which plain numbers are in range. Assumes nothing.
-use Prim.Native.Nat.{ℕ, _≤_}
+use Prim.Native.Nat.{_≤_}
 use Rattle.keys.specs.Ranges.{StrikeRange, MonthRange}
 use Rattle.keys.specs.declared.month.Month.{Month}
 use Rattle.contracts.specs.Ranges.{RootRange}

@@ -1,7 +1,7 @@
 // Ladder order: root, then future before call before put, then month, strike and underlying.
 ghost use mathlib.Core.Path.{_≡_};
 ghost use Rattle.std.specs.Orderings.{Decides};
-ghost use Rattle.contracts.specs.Ladder.{rootOf, kindRank, monthOf, strikeRank, underlyingRank, byRoot, byMonth, ladder};
+ghost use Rattle.contracts.specs.Ladder.{rootOf, kindRank, monthOf, strikeRank, underlyingRank, byRoot, ladder};
 use crate::contract::Contract;
 use crate::contract::Right;
 use crate::contract::Underlying;

@@ -1,6 +1,6 @@
 -- Two keys with the same numbers are the same: a range that holds adds nothing. Assumes nothing.
-use mathlib.Core.Path.{_≡_, ap, subst, _∙_}
-use Prim.Native.Nat.{ℕ, _≤_}
+use mathlib.Core.Path.{_≡_, ap, subst}
+use Prim.Native.Nat.{ℕ}
 use native.Mathlib.Bridge.{le-prop}
 use native.Mathlib.Omega.{arith}
 use Rattle.keys.specs.Ranges.{StrikeRange, MonthRange, monthIndex}

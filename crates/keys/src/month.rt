@@ -1,6 +1,5 @@
 // A contract month, which counts by its index: the months since January 2000.
 ghost use mathlib.Core.Path.{_≡_};
-ghost use Prim.Native.Nat.{ℕ};
 ghost use lib.IntN.{pos, _-ℤ_};
 ghost use Rattle.std.specs.Options.{Cases as BySome};
 ghost use Rattle.keys.specs.Orders.{byNumber};

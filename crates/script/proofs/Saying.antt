@@ -15,17 +15,16 @@ use Rattle.contracts.specs.declared.plain.State.{State}
 use Rattle.notation.specs.LegReading.{whole, readState, readLeg}
 use Rattle.notation.specs.Letters.{stateText}
 use Rattle.notation.specs.Reading.{number}
-use Rattle.notation.specs.Spelling.{Number, Spells}
+use Rattle.notation.specs.Spelling.{Number}
 use Rattle.notation.specs.declared.part.LegPart.{LegPart}
 use Rattle.notation.specs.declared.part.LegPart.the-variants as part
 use Rattle.notation.proofs.Fields.{number-told, state-told}
 use Rattle.notation.proofs.Legs.{spelled-from-read, read-from-spelled}
-use Rattle.script.specs.Lines.{Reading, passed, market, ticket, unreadable, Read, andThen, placed, numberField, stateField, ended, marketFields, first, readMarket, marketOr, minuteOr, minuteField, legOr, ticketAfter, legsOr, readTicket, Names, readAs, LineKept, trouble}
-use Rattle.script.specs.Says.{PassedOver, MarketLine, LegsSpelled, TicketLine, Says, LineSays}
+use Rattle.script.specs.Lines.{Reading, passed, market, ticket, unreadable, Read, andThen, placed, numberField, stateField, ended, marketFields, first, readMarket, marketOr, minuteOr, minuteField, legOr, ticketAfter, legsOr, readTicket, Names, readAs, LineKept}
+use Rattle.script.specs.Says.{MarketLine, LegsSpelled, TicketLine, Says, LineSays}
 use Rattle.script.specs.declared.line.Call.{Call}
 use Rattle.script.specs.declared.line.Call.the-variants as call
 use Rattle.script.specs.declared.line.Trouble.{Trouble}
-use Rattle.script.specs.declared.line.What.the-variants.{MissingWord, Minute, Part}
 
 never-ok : {X : Type 0} {t : Trouble} {x : X} → _≡_ {A = Result X Trouble} (Err t) (Ok x) → ⊥
 never-ok e = let z : _≡_ {A = ℕ} 0 1 = cc in omega arith

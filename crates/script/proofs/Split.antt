@@ -1,15 +1,15 @@
 -- A run of spaces holds no word, and a run of other characters is the first word. Assumes nothing.
 use mathlib.Core.Path.{_≡_, refl, sym, ap, subst, _∙_}
-use mathlib.Core.Bool.{Bool, true, false, cond}
+use mathlib.Core.Bool.{Bool, true, false}
 use mathlib.Core.List.{List, [], _∷_}
-use mathlib.Core.Logic.{inl, inr, ⊎-elim}
+use mathlib.Core.Logic.{⊎-elim}
 use Prim.Native.Nat.{ℕ, zero, suc, pred, _+_, _<_, _≤_}
 use native.Mathlib.Nat.{add-zero}
 use native.Mathlib.Omega.{arith}
 use lib.ListN.{length, getD, take, drop}
 use Rattle.std.proofs.shelf.Lists.{length-drop, getD-drop}
 use Rattle.std.proofs.shelf.Tests.{cond-true, cond-false, cases-bool, cases-lt}
-use Rattle.script.specs.Words.{space, onto, opening, words}
+use Rattle.script.specs.Words.{space, onto, words}
 
 not-false : (b : Bool) → (b ≡ false → ⊥) → b ≡ true
 not-false b h = ⊎-elim (λ (e : b ≡ true). e) (λ (e : b ≡ false). absurd (h e)) (cases-bool b)

@@ -1,7 +1,6 @@
 // What the program writes.
 ghost use mathlib.Core.Path.{_≡_};
 ghost use mathlib.Core.Bool.{true};
-ghost use Prim.Native.Nat.{ℕ};
 ghost use Rattle.std.specs.Of.String.{string-bytes};
 ghost use Rattle.std.specs.Vec.{made};
 ghost use Rattle.script.specs.Texts.{letterOf, piece, ratiosFrom, printable, marketText, ticketText, refusalText, ErrorText, AnswerText};

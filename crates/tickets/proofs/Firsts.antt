@@ -10,7 +10,7 @@ use lib.ListN.{length}
 use Rattle.std.proofs.shelf.Tests.{cases-lt}
 use Rattle.contracts.specs.declared.plain.PlainLeg.{PlainLeg}
 use Rattle.tickets.specs.Lines.{Holds, Nowhere, First}
-use Rattle.tickets.specs.Refusals.{legNumber, ticketFault}
+use Rattle.tickets.specs.Refusals.{legNumber}
 use Rattle.tickets.specs.Refused.{Applies, NoLater, Refused, Clear}
 use Rattle.tickets.specs.declared.refusal.LegLine.{LegLine}
 use Rattle.tickets.specs.declared.refusal.LegLine.the-variants.{Range, Repeat, Core, LotOrTick, Halted, Late}

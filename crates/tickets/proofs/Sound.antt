@@ -8,10 +8,8 @@ use native.Mathlib.Omega.{arith}
 use lib.ListN.{length, getD, set, take}
 use Rattle.std.proofs.shelf.Lists.{getD-set-same, getD-set-other, getD-take, length-take-le}
 use Rattle.std.proofs.shelf.Tests.{cases-lt, cases-eq}
-use Rattle.contracts.specs.Plain.{plainContract, ContractInRange, LegInRange}
-use Rattle.contracts.specs.declared.contract.Contract.{Contract}
+use Rattle.contracts.specs.Plain.{plainContract, ContractInRange}
 use Rattle.contracts.specs.declared.leg.Leg.{Leg}
-use Rattle.contracts.specs.declared.plain.PlainContract.{PlainContract}
 use Rattle.contracts.specs.declared.plain.PlainLeg.{PlainLeg}
 use Rattle.tickets.specs.Kept.{Different, Reduced}
 use Rattle.tickets.specs.Lines.{Holds, legAt}

@@ -1,7 +1,7 @@
 // Each line of the list that speaks of one leg, and the first leg of which it is true.
 ghost use mathlib.Core.Path.{_≡_};
-ghost use Prim.Native.Nat.{ℕ, _+_, _<_, _≤_};
-ghost use lib.ListN.{length, getD};
+ghost use Prim.Native.Nat.{_+_, _<_, _≤_};
+ghost use lib.ListN.{length};
 ghost use Rattle.std.specs.Orderings.{Decides};
 ghost use Rattle.std.specs.Results.{Cases as ByOk};
 ghost use Rattle.contracts.specs.Plain.{ContractInRange, LegInRange};

@@ -1,4 +1,4 @@
-use mathlib.Core.Path.{sym, _∙_}
+use mathlib.Core.Path.{_∙_}
 use Rattle.script.proofs.Ratios.{ratio-more, ratios-all}
 use Rattle.script.proofs.text.ratios_text.Needs as need
 

@@ -7,7 +7,7 @@ use Rattle.std.specs.declared.result.Result.{Result}
 use Rattle.std.proofs.shelf.Results.{err-from-errBy, cases-weaker}
 use Rattle.contracts.specs.declared.plain.PlainLeg.{PlainLeg}
 use Rattle.tickets.specs.Refused.{Refused, Clear}
-use Rattle.tickets.specs.declared.refusal.LegLine.the-variants.{Range, Repeat, Core, LotOrTick, Halted, Late}
+use Rattle.tickets.specs.declared.refusal.LegLine.the-variants.{Repeat, Core, LotOrTick, Halted, Late}
 use Rattle.tickets.specs.declared.refusal.TicketRefusal.{TicketRefusal}
 use Rattle.tickets.proofs.Firsts.{told, clear, upto-7, upto-8, upto-9, upto-10, upto-11, upto-more}
 use Rattle.tickets.proofs.check.refuse_first.Needs as need

@@ -1,4 +1,3 @@
-use Rattle.std.specs.Orderings.{Decides}
 use Rattle.std.proofs.shelf.Ways.{decides-and, decides-like}
 use Rattle.tickets.proofs.lines.in_range.Needs as need
 

@@ -1,4 +1,3 @@
-use Prim.Native.Nat.{_∣_}
 use native.Mathlib.Nat.{dvd-zero, dvd-trans}
 use native.Mathlib.Omega.{arith}
 use borrow.Author.Count.{below-more}

@@ -3,7 +3,7 @@ use mathlib.Core.List.{List}
 use Rattle.contracts.specs.declared.plain.PlainLeg.{PlainLeg}
 use Rattle.script.specs.Answers.{TicketAnswer}
 use Rattle.script.specs.Kept.{keptLegs}
-use Rattle.script.specs.Lines.{Reading, ticket, LineReads}
+use Rattle.script.specs.Lines.{ticket, LineReads}
 use Rattle.script.specs.Says.{Says}
 use Rattle.script.specs.Words.{words, bodyOf}
 use Rattle.script.proofs.Five.{answered, kept-ticket}

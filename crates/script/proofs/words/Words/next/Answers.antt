@@ -1,7 +1,5 @@
-use mathlib.Core.Path.{_≡_, refl, sym, _∙_}
-use Prim.Native.Nat.{_<_}
+use mathlib.Core.Path.{refl, sym, _∙_}
 use native.Mathlib.Omega.{arith}
-use lib.ListN.{length}
 use Rattle.std.proofs.shelf.Tests.{eqb-true, eqb-false}
 use Rattle.script.proofs.Split.{no-word, one-word}
 use Rattle.script.proofs.words.Words.next.Needs as need
