@@ -2,7 +2,7 @@
 use Rattle.std.proofs.Common.{◌≡◌, ℕ, ◌*◌, ◌<◌, List, length, get_or, sym, refl, ap, ◌∙◌, arith}
 use native.Mathlib.Nat.{dvd_antisymm, eq_of_mul-eq-mul_right}
 use Rattle.std.proofs.lemmas.List.{same_lists}
-use Rattle.keys.proofs.Same.{same_strike, same_month}
+use Rattle.keys.specs.Same.{same_strike, same_month}
 use Rattle.contracts.specs.Plain.{plain_root, plain_month, plain_underlying, plain_contract}
 use Rattle.contracts.specs.declared.contract.Contract.{Contract}
 use Rattle.contracts.specs.declared.contract.Contract.TheVariants.{Future, Option}

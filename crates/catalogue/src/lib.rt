@@ -1,4 +1,6 @@
 // Catalogues by what they mean, and the analysis: which entry of a catalogue a ticket fits first.
+#![tactic(auto)]
+
 pub mod analyse;
 pub mod catalogue;
 pub mod direction;

@@ -1,4 +1,6 @@
 // Contracts in ladder order, and legs: as they are handed in, and as a ticket keeps them.
+#![tactic(auto)]
+
 pub mod contract;
 pub mod ladder;
 pub mod leg;

@@ -36,15 +36,17 @@ impl Month {
 }
 
 impl Key for Month {
+    ghost use Rattle.keys.specs.Same.{months_same};
+
     ghost order = { λ x y. by_number (month_index x.year x.month) (month_index y.year y.month) };
 
-    ghost same = { first_of (Prim.search rules, Prim.grind (arith, Self.row.coded.inj)) };
+    ghost same = { months_same };
 
-    ghost itself = { first_of (Prim.search rules, Prim.grind (arith, Self.row.coded.inj)) };
+    ghost itself = { Prim.search rules };
 
-    ghost turned = { first_of (Prim.search rules, Prim.grind (arith, Self.row.coded.inj)) };
+    ghost turned = { Prim.search rules };
 
-    ghost transitive = { first_of (Prim.search rules, Prim.grind (arith, Self.row.coded.inj)) };
+    ghost transitive = { Prim.search rules };
 
     fn compare(&self, other: &Month) -> Order {
         by_number(self.index(), other.index())
@@ -52,25 +54,27 @@ impl Key for Month {
 }
 
 impl SpacedKey for Month {
+    ghost use Rattle.keys.specs.Same.{months_reached};
+
     const GREATEST: i32 = 1_199;
 
     ghost gap = { λ x y. pos (month_index y.year y.month) -ℤ pos (month_index x.year x.month) };
 
     ghost greatest = { 1199 };
 
-    ghost ahead = { first_of (Prim.search rules, Prim.grind (arith, Self.row.coded.inj)) };
+    ghost ahead = { Prim.search rules };
 
-    ghost behind = { first_of (Prim.search rules, Prim.grind (arith, Self.row.coded.inj)) };
+    ghost behind = { Prim.search rules };
 
     ghost adds = { λ x y z. omega (arith, ints) };
 
-    ghost near = { first_of (Prim.search rules, Prim.grind (arith, Self.row.coded.inj)) };
+    ghost near = { Prim.search rules };
 
-    ghost far = { first_of (Prim.search rules, Prim.grind (arith, Self.row.coded.inj)) };
+    ghost far = { Prim.search rules };
 
-    ghost reached = { first_of (Prim.search rules, Prim.grind (arith, Self.row.coded.inj)) };
+    ghost reached = { months_reached };
 
-    ghost small = { first_of (Prim.search rules, Prim.grind (arith, Self.row.coded.inj)) };
+    ghost small = { Prim.search rules };
 
     fn distance(&self, other: &Month) -> i32 {
         other.index() as i32 - self.index() as i32

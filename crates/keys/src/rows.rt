@@ -20,7 +20,7 @@ pub fn rising<K: Key>(row: &[K]) -> bool
 
 // Whether b lies halfway from a to c. Twice a distance fits, since none passes the greatest of its kind.
 fn halfway<K: SpacedKey>(a: &K, b: &K, c: &K) -> bool
-    ensures { Decides result (gap a.now c.now ≡ pos 2 *ℤ gap a.now b.now) }
+    ensures { Decides result (K.SpacedKey.gap a.now c.now ≡ pos 2 *ℤ K.SpacedKey.gap a.now b.now) }
 {
     a.distance(c) == 2 * a.distance(b)
 }

@@ -25,15 +25,17 @@ impl Strike {
 }
 
 impl Key for Strike {
+    ghost use Rattle.keys.specs.Same.{strikes_same};
+
     ghost order = { λ x y. by_number x.hundredths y.hundredths };
 
-    ghost same = { first_of (Prim.search rules, Prim.grind (arith, Self.row.coded.inj)) };
+    ghost same = { strikes_same };
 
-    ghost itself = { first_of (Prim.search rules, Prim.grind (arith, Self.row.coded.inj)) };
+    ghost itself = { Prim.search rules };
 
-    ghost turned = { first_of (Prim.search rules, Prim.grind (arith, Self.row.coded.inj)) };
+    ghost turned = { Prim.search rules };
 
-    ghost transitive = { first_of (Prim.search rules, Prim.grind (arith, Self.row.coded.inj)) };
+    ghost transitive = { Prim.search rules };
 
     fn compare(&self, other: &Strike) -> Order {
         by_number(self.hundredths, other.hundredths)
@@ -41,25 +43,27 @@ impl Key for Strike {
 }
 
 impl SpacedKey for Strike {
+    ghost use Rattle.keys.specs.Same.{strikes_reached};
+
     const GREATEST: i32 = 99_999_998;
 
     ghost gap = { λ x y. pos y.hundredths -ℤ pos x.hundredths };
 
     ghost greatest = { 99999998 };
 
-    ghost ahead = { first_of (Prim.search rules, Prim.grind (arith, Self.row.coded.inj)) };
+    ghost ahead = { Prim.search rules };
 
-    ghost behind = { first_of (Prim.search rules, Prim.grind (arith, Self.row.coded.inj)) };
+    ghost behind = { Prim.search rules };
 
-    ghost adds = { first_of (Prim.search rules, Prim.grind (arith, Self.row.coded.inj)) };
+    ghost adds = { Prim.search rules };
 
-    ghost near = { first_of (Prim.search rules, Prim.grind (arith, Self.row.coded.inj)) };
+    ghost near = { Prim.search rules };
 
-    ghost far = { first_of (Prim.search rules, Prim.grind (arith, Self.row.coded.inj)) };
+    ghost far = { Prim.search rules };
 
-    ghost reached = { first_of (Prim.search rules, Prim.grind (arith, Self.row.coded.inj)) };
+    ghost reached = { strikes_reached };
 
-    ghost small = { first_of (Prim.search rules, Prim.grind (arith, Self.row.coded.inj)) };
+    ghost small = { Prim.search rules };
 
     fn distance(&self, other: &Strike) -> i32 {
         other.hundredths as i32 - self.hundredths as i32

@@ -1,4 +1,6 @@
 // A leg of a strategy ticket as text: read, and written; and the words of a line.
+#![tactic(auto)]
+
 mod cursor;
 pub mod field;
 pub mod part;

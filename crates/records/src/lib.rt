@@ -1,4 +1,6 @@
 // A record of a sheet as text: read, and written.
+#![tactic(auto)]
+
 pub mod read;
 mod term;
 pub mod trouble;

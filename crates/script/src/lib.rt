@@ -1,4 +1,6 @@
 // The session script: its lines read, and answered.
+#![tactic(auto)]
+
 pub mod answer;
 mod keep;
 mod legs;

@@ -11,7 +11,7 @@ use Rattle.keys.specs.declared.key.Order.{Order}
 use Rattle.keys.specs.declared.key.Order.TheVariants as order
 use Rattle.keys.specs.declared.month.Month.{Month}
 use Rattle.keys.specs.declared.strike.Strike.{Strike}
-use Rattle.keys.proofs.Same.{same_index}
+use Rattle.keys.specs.Same.{same_index}
 use Rattle.contracts.specs.Ladder.{root_of, by_month}
 use Rattle.contracts.specs.declared.contract.Contract.{Contract}
 use Rattle.contracts.specs.declared.contract.Contract.TheVariants as contract

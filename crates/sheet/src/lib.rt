@@ -1,4 +1,6 @@
 // A sheet: a catalogue from a supplied list of records of any content.
+#![tactic(auto)]
+
 mod fit;
 mod form;
 pub mod make;

@@ -1,4 +1,6 @@
 // Tickets: the check of a minute and legs, the refusals, and what an accepted ticket keeps.
+#![tactic(auto)]
+
 pub mod check;
 pub mod fault;
 pub mod lines;

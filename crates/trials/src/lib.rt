@@ -1,4 +1,6 @@
 // Tests of the layers on examples.
+#![tactic(auto)]
+
 #[cfg(test)]
 mod keys_tests;
 #[cfg(test)]

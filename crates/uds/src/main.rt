@@ -1,4 +1,6 @@
 // The program `uds`: a session script in, an answer out for each of its lines.
+#![tactic(auto)]
+
 use anyhow::anyhow;
 use script::answer::Answer;
 use script::session::Session;

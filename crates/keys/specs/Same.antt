@@ -1,7 +1,10 @@
 -- Two keys with the same numbers are the same: a range that holds adds nothing. Assumes nothing.
-use Rattle.std.proofs.Common.{◌≡◌, ℕ, ap, subst, arith}
+use Rattle.std.proofs.Common.{◌≡◌, ℕ, ℤ, pos, ◌-ℤ◌, refl, ap, subst, lit≤, arith}
+use Rattle.std.proofs.lemmas.Bool.Decides.{nat_tests}
 use native.Mathlib.Bridge.{le_prop}
+use Rattle.keys.specs.Orders.{by_number}
 use Rattle.keys.specs.Ranges.{StrikeRange, MonthRange, month_index}
+use Rattle.keys.specs.declared.key.Order.TheVariants.{Same}
 use Rattle.keys.specs.declared.strike.Strike.{Strike}
 use Rattle.keys.specs.declared.month.Month.{Month}
 
@@ -29,3 +32,17 @@ same_month x y e f =
 
 pub same_index : (x y : Month) → month_index x.year x.month ≡ month_index y.year y.month → x ≡ y
 same_index x y e = let p = x.range in let q = y.range in same_month x y (omega arith) (omega arith)
+
+-- strikes of one number are one strike
+pub strikes_same : (x y : Strike) → by_number x.hundredths y.hundredths ≡ Same → x ≡ y
+strikes_same x y e = same_strike x y (grind (arith, nat_tests))
+
+pub strikes_reached : (x : Strike) × (y : Strike) × (pos y.hundredths -ℤ pos x.hundredths ≡ pos 99999998)
+strikes_reached = (strike 1 (lit≤ tt, lit≤ tt), strike 99999999 (lit≤ tt, lit≤ tt), refl)
+
+-- months of one index are one month
+pub months_same : (x y : Month) → by_number (month_index x.year x.month) (month_index y.year y.month) ≡ Same → x ≡ y
+months_same x y e = same_index x y (grind (arith, nat_tests))
+
+pub months_reached : (x : Month) × (y : Month) × (pos (month_index y.year y.month) -ℤ pos (month_index x.year x.month) ≡ pos 1199)
+months_reached = (month_of_lem 2000 1 (lit≤ tt, lit≤ tt, lit≤ tt, lit≤ tt), month_of_lem 2099 12 (lit≤ tt, lit≤ tt, lit≤ tt, lit≤ tt), refl)
