@@ -15,39 +15,39 @@ failed f = Err f
 same_refusal : (e f : TicketRefusal) → ◌≡◌ {A = Result Ticket TicketRefusal} (Err e) (Err f) → e ≡ f
 same_refusal e f h = cc
 
-pub returns-in-err-ticket : goal.returns-in-err-ticket
-returns-in-err-ticket g c =
-    let e = c.in-err-ticket.field-0.0 in
-    let w = c.in-err-ticket.ensures.refused in
-    let q = err_from_is_err_and c.from-residual.result c.from-residual.ensures.1 in
+pub returns-in_err-ticket : goal.returns-in_err-ticket
+returns-in_err-ticket g c =
+    let e = c.in_err-ticket.field-0.0 in
+    let w = c.in_err-ticket.ensures.refused in
+    let q = err_from_is_err_and c.from_residual.result c.from_residual.ensures.1 in
     let k =
     refused_clauses (g.C.Catalogue.entries c.args.catalogue.now) c.args.minute c.args.legs.now (held c.args.strategy.now c.args.seating.now)
-    c.from-residual.result e (q.1 ∙ ap failed q.2) ((w e).0 refl) (λ f h. same_refusal e f ((w f).1 h)) in
-    record { refused = k.refused; answered = k.answered; named = k.named; untyped = k.untyped; same-strategy = k.same-strategy }
+    c.from_residual.result e (q.1 ∙ ap failed q.2) ((w e).0 refl) (λ f h. same_refusal e f ((w f).1 h)) in
+    record { refused = k.refused; answered = k.answered; named = k.named; untyped = k.untyped; same-strategy = k.same_strategy }
 
-pub returns-in-err-fit : goal.returns-in-err-fit
-returns-in-err-fit g c =
+pub returns-in_err-fit : goal.returns-in_err-fit
+returns-in_err-fit g c =
     let es = g.C.Catalogue.entries c.args.catalogue.now in
-    let v = c.in-ok-ticket.ensures.accepted in
-    let w = c.in-err-fit.ensures in
-    let r = c.from-residual-in-err-fit.result in
-    let q = err_from_is_err_and r c.from-residual-in-err-fit.ensures.1 in
+    let v = c.in_ok-ticket.ensures.accepted in
+    let w = c.in_err-fit.ensures in
+    let r = c.from_residual-in_err-fit.result in
+    let q = err_from_is_err_and r c.from_residual-in_err-fit.ensures.1 in
     let k =
-    none_clauses es c.args.minute c.args.legs.now (held c.args.strategy.now c.args.seating.now) c.in-ok-ticket.ticket v.0 v.1
+    none_clauses es c.args.minute c.args.legs.now (held c.args.strategy.now c.args.seating.now) c.in_ok-ticket.ticket v.0 v.1
     r (q.1 ∙ ap failed (q.2 ∙ ap catalogue_fault w.0)) (ap (first_fit es) (sym c.legs.ensures) ∙ w.1) in
-    record { refused = k.refused; answered = k.answered; named = k.named; untyped = k.untyped; same-strategy = k.same-strategy }
+    record { refused = k.refused; answered = k.answered; named = k.named; untyped = k.untyped; same-strategy = k.same_strategy }
 
 pub tell-requires : goal.tell-requires
 tell-requires g c =
-    let v = c.in-ok-ticket.ensures.accepted in
+    let v = c.in_ok-ticket.ensures.accepted in
     place-told (g.C.Catalogue.entries c.args.catalogue.now) c.args.minute c.args.legs.now (held c.args.strategy.now c.args.seating.now)
-    c.in-ok-ticket.ticket v.0 v.1 c.in-ok-fit.fit _ c.legs.ensures c.in-ok-fit.ensures
+    c.in_ok-ticket.ticket v.0 v.1 c.in_ok-fit.fit _ c.legs.ensures c.in_ok-fit.ensures
 
 pub returns : goal.returns
 returns g c =
-    let v = c.in-ok-ticket.ensures.accepted in
+    let v = c.in_ok-ticket.ensures.accepted in
     let k =
     found-clauses (g.C.Catalogue.entries c.args.catalogue.now) c.args.minute c.args.legs.now (held c.args.strategy.now c.args.seating.now)
-    c.in-ok-ticket.ticket v.0 v.1 c.in-ok-fit.fit _ c.legs.ensures c.in-ok-fit.ensures
+    c.in_ok-ticket.ticket v.0 v.1 c.in_ok-fit.fit _ c.legs.ensures c.in_ok-fit.ensures
     c.tell.result (held c.tell.new.strategy c.tell.new.seating) c.tell.ensures.answer c.tell.ensures.named c.tell.ensures.seated in
-    record { refused = k.refused; answered = k.answered; named = k.named; untyped = k.untyped; same-strategy = k.same-strategy }
+    record { refused = k.refused; answered = k.answered; named = k.named; untyped = k.untyped; same-strategy = k.same_strategy }

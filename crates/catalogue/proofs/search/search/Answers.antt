@@ -9,15 +9,15 @@ use Rattle.catalogue.proofs.Rest.{starts, to_first_direction, to_first_seating, 
 use Rattle.catalogue.proofs.Seats.{table_length, place_legs, place_short}
 use Rattle.catalogue.proofs.Skips.{passed_over}
 use Rattle.catalogue.proofs.search.search.Goals as goal
-use Rattle.catalogue.proofs.search.search.Goals.{then-loop-number-test+else-role-count-legs+then-loop-direction-test+then-loop-place-test+then-fits-so as broke, else-loop-number-test as ended}
+use Rattle.catalogue.proofs.search.search.Goals.{then-loop-number-test+else-role_count-legs+then-loop-direction-test+then-loop-place-test+then-fits_so as broke, else-loop-number-test as ended}
 
 pub loop-number-init : goal.loop-number-init
 loop-number-init g c = rw c.count-count.ensures (starts (g.C.Catalogue.entries c.args.catalogue.now) c.args.legs.now)
 
-pub loop-number-preserved-then-role-count-legs : goal.loop-number-preserved-then-role-count-legs
-loop-number-preserved-then-role-count-legs g c =
+pub loop-number-preserved-then-role_count-legs : goal.loop-number-preserved-then-role_count-legs
+loop-number-preserved-then-role_count-legs g c =
     passed_over (g.C.Catalogue.entries c.args.catalogue.now) c.args.legs.now c.loop-number.number c.requires.two c.requires.four
-    (λ e. c.if-role-count-legs.true (c.role-count.ensures ∙ e))
+    (λ e. c.if-role_count-legs.true (c.role_count.ensures ∙ e))
     c.count-count.result (omega arith) c.loop-number.invariant
 
 pub loop-direction-init : goal.loop-direction-init
@@ -29,22 +29,22 @@ loop-place-init g c =
     let two = ap length c.directions-direction-items.ensures in
     to_first_seating (g.C.Catalogue.entries c.args.catalogue.now) c.args.legs.now c.count-count.result c.loop-number.number c.loop-direction.direction-index (omega arith) c.loop-direction.invariant
 
-pub fits-so-requires : goal.fits-so-requires
-fits-so-requires g c =
+pub fits_so-requires : goal.fits_so-requires
+fits_so-requires g c =
     let n = length c.args.legs.now in
-    let table = c.seatings-of-table.result.now in
-    let long = table_length n c.requires.two c.requires.four table c.seatings-of-table.ensures.table in
+    let table = c.seatings_of-table.result.now in
+    let long = table_length n c.requires.two c.requires.four table c.seatings_of-table.ensures.table in
     record {
       some = omega arith;
       few = c.requires.four;
-      known = place_legs n c.requires.two c.requires.four table c.seatings-of-table.ensures.table c.loop-place.place (omega arith);
+      known = place_legs n c.requires.two c.requires.four table c.seatings_of-table.ensures.table c.loop-place.place (omega arith);
     }
 
 pub loop-place-preserved : goal.loop-place-preserved
 loop-place-preserved g c =
     let t = c.args.legs.now in
-    let table = c.seatings-of-table.result.now in
-    let said = c.seatings-of-table.ensures.table in
+    let table = c.seatings_of-table.result.now in
+    let said = c.seatings_of-table.ensures.table in
     let d = c.loop-direction.direction-index in
     let i = c.loop-place.place in
     let long = table_length (length t) c.requires.two c.requires.four table said in
@@ -52,12 +52,12 @@ loop-place-preserved g c =
     miss (g.C.Catalogue.entries c.args.catalogue.now) t c.count-count.result c.loop-number.number d i here c.loop-place.invariant
     _ (ap (λ (l : List Direction). get_or l d Buy) c.directions-direction-items.ensures)
     _ (place_short (length t) c.requires.two c.requires.four table said i here)
-    c.fits-so.result c.fits-so.ensures c.if-fits-so.false
+    c.fits_so.result c.fits_so.ensures c.if-fits_so.false
 
 pub loop-direction-preserved : goal.loop-direction-preserved
 loop-direction-preserved g c =
     let t = c.args.legs.now in
-    let long = table_length (length t) c.requires.two c.requires.four c.seatings-of-table.result.now c.seatings-of-table.ensures.table in
+    let long = table_length (length t) c.requires.two c.requires.four c.seatings_of-table.result.now c.seatings_of-table.ensures.table in
     to_next_direction (g.C.Catalogue.entries c.args.catalogue.now) t c.count-count.result c.loop-number.number c.loop-direction.direction-index c.loop-place.place (omega arith) c.loop-place.invariant
 
 pub loop-number-preserved : goal.loop-number-preserved
@@ -69,8 +69,8 @@ pub returns : goal.returns
 returns g c =
     let es = g.C.Catalogue.entries c.args.catalogue.now in
     let t = c.args.legs.now in
-    let table = c.seatings-of-table.result.now in
-    let said = c.seatings-of-table.ensures.table in
+    let table = c.seatings_of-table.result.now in
+    let said = c.seatings_of-table.ensures.table in
     let Told : Option (ℕ × Direction × ℕ) → Type 0 = λ o. Searched es t (ok_or o NoEntryFits) in
     let so_far : Told c.loop-number-test.found =
     elim c.loop-number-test.branch [
@@ -84,10 +84,10 @@ returns g c =
             hit es t c.count-count.result c.loop-number.number d i here w.loop-place.inv
                 _ (ap (λ (l : List Direction). get_or l d Buy) w.directions-direction-items.ensures)
                 _ (place_short (length t) c.requires.two c.requires.four table said i here)
-                w.fits-so.result w.fits-so.ensures w.if-fits-so.taken,
+                w.fits_so.result w.fits_so.ensures w.if-fits_so.true,
           )
       | ended w ↦
           subst Told (sym w.found-is)
           (refl, none_left es t c.count-count.result c.loop-number.number (omega arith) c.loop-number.invariant)
     ] in
-    subst (Searched es t) (sym c.ok-or.ensures.value) so_far
+    subst (Searched es t) (sym c.ok_or.ensures.value) so_far

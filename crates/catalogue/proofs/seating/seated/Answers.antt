@@ -4,8 +4,8 @@ use Rattle.catalogue.specs.Rows.{faced, no_leg}
 use Rattle.catalogue.proofs.Rows.{row_more, leg_at_lem}
 use Rattle.catalogue.proofs.seating.seated.Goals as goal
 
-pub overflow-sub-seating : goal.overflow-sub-seating
-overflow-sub-seating c = (leg_at_lem (length c.args.legs.now) c.args.seating.now c.loop-role.role c.loop-role-test.true (omega arith) c.requires.known).0
+pub overflow_sub-seating : goal.overflow_sub-seating
+overflow_sub-seating c = (leg_at_lem (length c.args.legs.now) c.args.seating.now c.loop-role.role c.loop-role-test.true (omega arith) c.requires.known).0
 
 pub bounds-legs-seating : goal.bounds-legs-seating
 bounds-legs-seating c =

@@ -8,10 +8,10 @@ pub returns : goal.returns
 unfolding leg_text
 returns c =
     let leg = c.args.leg.now in
-    let side = c.side-text-side.result.now in
-    let contract = string_bytes c.in-ok-contract.contract in
+    let side = c.side_text-side.result.now in
+    let contract = string_bytes c.in_ok-contract.contract in
     IfOk-weaker c.format.result
     (λ s. string_bytes s ≡ side ++ (decimal leg.ratio ++ (codes ":" ++ contract)))
     (λ s. string_bytes s ≡ leg_text leg)
-    (λ s e. e ∙ leg_pieces side (decimal leg.ratio) contract _ _ c.side-text-side.ensures c.in-ok-contract.ensures)
+    (λ s e. e ∙ leg_pieces side (decimal leg.ratio) contract _ _ c.side_text-side.ensures c.in_ok-contract.ensures)
     c.format.ensures.ok

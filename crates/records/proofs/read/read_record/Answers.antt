@@ -8,6 +8,6 @@ pub returns : goal.returns
 unfolding read_record
 returns c =
     let text = c.args.text.now in
-    let r = c.read-words.result in
-    let value : ReadAs (words text) r = c.read-words.ensures in
+    let r = c.read_words.result in
+    let value : ReadAs (words text) r = c.read_words.ensures in
     record { value = value; spelled = told_spelled (words text) r value; back = told_back text r value }

@@ -8,7 +8,7 @@ loop-word-preserved c =
     let inv = c.loop-word.invariant in
     let less = next.1 in
     let within = inv.1 in (
-      relations_more _ c.loop-word.number (vec_items c.loop-word.relations) (vec_items c.push.new.self) c.in-Some.word.now _ _ c.in-Some-read-relation.relation inv.0 next.0
-          (sym c.in-Some-read-relation.ensures) c.in-ok-push.ensures.items,
+      relations_more _ c.loop-word.number (vec_items c.loop-word.relations) (vec_items c.push.new.self) c.in-Some.word.now _ _ c.in-Some-read_relation.relation inv.0 next.0
+          (sym c.in-Some-read_relation.ensures) c.in_ok-push.ensures.items,
       omega arith,
     )

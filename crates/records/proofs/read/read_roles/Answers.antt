@@ -10,9 +10,9 @@ loop-word-preserved c =
     let less = next.1 in
     let within = inv.2 in
     let same = ap (λ (t : List ℕ). length t) inv.1 in
-    let len = c.in-ok-push.ensures.len in (
-      roles_more _ (vec_items c.loop-word.roles) (vec_items c.push.new.self) c.in-Some.word.now _ _ c.in-Some-read-role.role inv.0 (ap words (sym inv.1) ∙ next.0)
-          (sym c.in-Some-read-role.ensures) c.in-ok-push.ensures.items,
+    let len = c.in_ok-push.ensures.len in (
+      roles_more _ (vec_items c.loop-word.roles) (vec_items c.push.new.self) c.in-Some.word.now _ _ c.in-Some-read_role.role inv.0 (ap words (sym inv.1) ∙ next.0)
+          (sym c.in-Some-read_role.ensures) c.in_ok-push.ensures.items,
       refl,
       omega arith,
     )

@@ -4,6 +4,6 @@ use Rattle.records.proofs.term.split_digits.Goals as goal
 
 pub returns : goal.returns
 returns c =
-    let n = c.count-digits.ensures in
-    let h = counted c.count-digits.result c.args.text.now n.within n.all n.ends in
-    (c.split-at.ensures.front ∙ h.0, c.split-at.ensures.back ∙ h.1)
+    let n = c.count_digits.ensures in
+    let h = counted c.count_digits.result c.args.text.now n.within n.all n.ends in
+    (c.split_at.ensures.front ∙ h.0, c.split_at.ensures.back ∙ h.1)

@@ -6,8 +6,8 @@ use Rattle.records.proofs.write.relations_text.Goals as goal
 pub loop-relation-preserved : goal.loop-relation-preserved
 loop-relation-preserved c =
     spaced_more relation_text c.args.relations.now c.loop-relation.relation-index _ _ _ _ c.loop-relation-test.true c.loop-relation.invariant
-    (c.as-str.ensures.value ∙ c.in-ok-piece.ensures)
-    c.in-ok-push-str.ensures.bytes
+    (c.as_str.ensures.value ∙ c.in_ok-piece.ensures)
+    c.in_ok-push_str.ensures.bytes
 
 pub returns : goal.returns
 returns c = spaced_all relation_text c.args.relations.now c.loop-relation.relation-index _ c.loop-relation-test.false c.loop-relation.invariant

@@ -5,10 +5,10 @@ use Rattle.script.proofs.text.error_text.Goals as goal
 
 pub returns : goal.returns
 returns c =
-    let what = c.what-text-what.result.now in
+    let what = c.what_text-what.result.now in
     let t = c.args.trouble in
     IfOk-weaker c.format.result
     (λ s. string_bytes s ≡ decimal c.args.number ++ (codes " error word " ++ (decimal t.word ++ (codes ": " ++ what))))
     (λ s. ErrorText c.args.number t (string_bytes s))
-    (λ s e. (what, c.what-text-what.ensures, e))
+    (λ s e. (what, c.what_text-what.ensures, e))
     c.format.ensures.ok

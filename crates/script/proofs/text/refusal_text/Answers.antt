@@ -9,7 +9,7 @@ returns c =
     let line : List ℕ → List ℕ =
     λ (letter : List ℕ). decimal c.args.number ++ (codes " ticket NO " ++ (decimal f.number ++ (codes " " ++ (letter ++ (codes " " ++ decimal f.place))))) in
     IfOk-weaker c.format.result
-    (λ s. string_bytes s ≡ line c.layer-letter-layer.result.now)
+    (λ s. string_bytes s ≡ line c.layer_letter-layer.result.now)
     (λ s. string_bytes s ≡ refusal_text c.args.number f)
-    (λ s e. e ∙ ap line c.layer-letter-layer.ensures)
+    (λ s e. e ∙ ap line c.layer_letter-layer.ensures)
     c.format.ensures.ok

@@ -5,4 +5,4 @@ use Rattle.script.proofs.text.told.Goals as goal
 
 pub returns-in-Refused : goal.returns-in-Refused
 returns-in-Refused c =
-    subst (λ (a : Answer). IfOk c.refusal-text.result (λ s. AnswerText c.args.number a (string_bytes s))) (sym c.in-Refused.is) c.refusal-text.ensures
+    subst (λ (a : Answer). IfOk c.refusal_text.result (λ s. AnswerText c.args.number a (string_bytes s))) (sym c.in-Refused.is) c.refusal_text.ensures

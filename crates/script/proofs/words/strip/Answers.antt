@@ -11,6 +11,6 @@ returns c =
     sym (cond-false _ _ _
     (ne_eqb last c.args.end
     (elim c.else-count-gt0.branch [
-      | another w ↦ w.if-text-count.left
+      | another w ↦ w.if-text-count.false
       | empty w ↦ λ e. let p = get_or_past text (length text - 1) 0 (omega arith) in omega (arith, e)
     ])))

@@ -5,7 +5,7 @@ use Rattle.sheet.specs.declared.record.Relation.{Relation}
 use Rattle.sheet.specs.Formed.{formed_relations}
 use Rattle.sheet.proofs.fit.accepts.Goals as goal
 
-pub all-hold-requires : goal.all-hold-requires
-all-hold-requires c =
-    subst (λ (xs : List Relation). everywhere (relation_formed (length c.args.row.now)) xs ≡ true) (sym c.as-slice-relations.ensures.value)
+pub all_hold-requires : goal.all_hold-requires
+all_hold-requires c =
+    subst (λ (xs : List Relation). everywhere (relation_formed (length c.args.row.now)) xs ≡ true) (sym c.as_slice-relations.ensures.value)
     (subst (λ (n : ℕ). everywhere (relation_formed n) (rule_of c.args.supplied.now).relations ≡ true) (sym c.requires.long) (formed_relations (rule_of c.args.supplied.now) c.requires.formed))

@@ -8,10 +8,10 @@ use Rattle.sheet.proofs.form.in_form.Goals as goal
 pub returns : goal.returns
 returns c =
     let rule = rule_of c.args.supplied.now in
-    let u = c.as-slice-roles.ensures.value in
-    let v = c.as-slice-relations.ensures.value in
-    let t : c.type-in-form.result ≡ type_formed rule = c.type-in-form.ensures in
-    let r : c.roles-in-form.result ≡ roles_formed rule.roles = c.roles-in-form.ensures ∙ ap roles_formed u in
-    let s : c.relations-in-form.result ≡ relations_formed (length rule.roles) rule.relations =
-    c.relations-in-form.ensures ∙ (λ i. relations_formed (length (u i)) (v i)) in
+    let u = c.as_slice-roles.ensures.value in
+    let v = c.as_slice-relations.ensures.value in
+    let t : c.type_in_form.result ≡ type_formed rule = c.type_in_form.ensures in
+    let r : c.roles_in_form.result ≡ roles_formed rule.roles = c.roles_in_form.ensures ∙ ap roles_formed u in
+    let s : c.relations_in_form.result ≡ relations_formed (length rule.roles) rule.relations =
+    c.relations_in_form.ensures ∙ (λ i. relations_formed (length (u i)) (v i)) in
     Decides-at _ (formed rule) (λ i. (t i && r i) && s i) (formed_decides rule)

@@ -10,37 +10,37 @@ use Rattle.tickets.proofs.check.refuse_first.Goals as goal
 handed_on : (m : ℕ) (legs : List PlainLeg) (r : Result (Unit {0}) TicketRefusal) (e : TicketRefusal) → IsErrAnd r (λ f. f ≡ e) → Refused m legs e → MatchResult r (λ _. Clear m legs) (λ f. Refused m legs f)
 handed_on m legs r e h q = let p = err_from_is_err_and r h in rw (p.1, p.2) q
 
-pub returns-in-err-refuse-2 : goal.returns-in-err-refuse-2
-returns-in-err-refuse-2 c =
+pub returns-in_err-refuse-2 : goal.returns-in_err-refuse-2
+returns-in_err-refuse-2 c =
     let m = c.args.minute in
     let legs = c.args.legs.now in
-    handed_on m legs _ _ c.from-residual-in-err-refuse-2.ensures.1
-    (told m legs (omega arith) (omega arith) (omega arith) Repeat (upto_7 m legs c.in-ok-refuse.ensures) _ c.in-err-refuse-2.ensures)
+    handed_on m legs _ _ c.from_residual-in_err-refuse-2.ensures.1
+    (told m legs (omega arith) (omega arith) (omega arith) Repeat (upto_7 m legs c.in_ok-refuse.ensures) _ c.in_err-refuse-2.ensures)
 
-pub returns-in-err-refuse-3 : goal.returns-in-err-refuse-3
-returns-in-err-refuse-3 c =
+pub returns-in_err-refuse-3 : goal.returns-in_err-refuse-3
+returns-in_err-refuse-3 c =
     let m = c.args.minute in
     let legs = c.args.legs.now in
-    handed_on m legs _ _ c.from-residual-in-err-refuse-3.ensures.1
-    (told m legs (omega arith) (omega arith) (omega arith) Core (upto_8 m legs c.in-ok-refuse.ensures c.in-ok-refuse-2.ensures) _ c.in-err-refuse-3.ensures)
+    handed_on m legs _ _ c.from_residual-in_err-refuse-3.ensures.1
+    (told m legs (omega arith) (omega arith) (omega arith) Core (upto_8 m legs c.in_ok-refuse.ensures c.in_ok-refuse-2.ensures) _ c.in_err-refuse-3.ensures)
 
-pub returns-in-err-refuse-4 : goal.returns-in-err-refuse-4
-returns-in-err-refuse-4 c =
+pub returns-in_err-refuse-4 : goal.returns-in_err-refuse-4
+returns-in_err-refuse-4 c =
     let m = c.args.minute in
     let legs = c.args.legs.now in
-    handed_on m legs _ _ c.from-residual-in-err-refuse-4.ensures.1
+    handed_on m legs _ _ c.from_residual-in_err-refuse-4.ensures.1
     (told m legs (omega arith) (omega arith) (omega arith) LotOrTick
-    (upto_9 m legs c.in-ok-refuse.ensures c.in-ok-refuse-2.ensures c.in-ok-refuse-3.ensures)
-    _ c.in-err-refuse-4.ensures)
+    (upto_9 m legs c.in_ok-refuse.ensures c.in_ok-refuse-2.ensures c.in_ok-refuse-3.ensures)
+    _ c.in_err-refuse-4.ensures)
 
-pub returns-in-err-refuse-5 : goal.returns-in-err-refuse-5
-returns-in-err-refuse-5 c =
+pub returns-in_err-refuse-5 : goal.returns-in_err-refuse-5
+returns-in_err-refuse-5 c =
     let m = c.args.minute in
     let legs = c.args.legs.now in
-    handed_on m legs _ _ c.from-residual-in-err-refuse-5.ensures.1
+    handed_on m legs _ _ c.from_residual-in_err-refuse-5.ensures.1
     (told m legs (omega arith) (omega arith) (omega arith) Halted
-    (upto_10 m legs c.in-ok-refuse.ensures c.in-ok-refuse-2.ensures c.in-ok-refuse-3.ensures c.in-ok-refuse-4.ensures)
-    _ c.in-err-refuse-5.ensures)
+    (upto_10 m legs c.in_ok-refuse.ensures c.in_ok-refuse-2.ensures c.in_ok-refuse-3.ensures c.in_ok-refuse-4.ensures)
+    _ c.in_err-refuse-5.ensures)
 
 pub returns : goal.returns
 returns c =
@@ -48,11 +48,11 @@ returns c =
     let legs = c.args.legs.now in
     let upto =
     upto_11 m legs
-    c.in-ok-refuse.ensures
-    c.in-ok-refuse-2.ensures
-    c.in-ok-refuse-3.ensures
-    c.in-ok-refuse-4.ensures
-    c.in-ok-refuse-5.ensures in
+    c.in_ok-refuse.ensures
+    c.in_ok-refuse-2.ensures
+    c.in_ok-refuse-3.ensures
+    c.in_ok-refuse-4.ensures
+    c.in_ok-refuse-5.ensures in
     MatchResult-weaker c.refuse-6.result c.refuse-6.ensures
     (λ _ none. clear m legs (omega arith) (omega arith) (omega arith) (upto_more m legs Late upto none))
     (λ e h. told m legs (omega arith) (omega arith) (omega arith) Late upto e h)

@@ -12,4 +12,4 @@ by_reading p None h = (λ e. absurd (false≢true e), λ r. absurd (h r))
 by_reading p (Some x) h = (λ _. subst ContractInRange h (plain_in_range x), λ _. refl)
 
 pub returns : goal.returns
-returns c = Decides-at _ _ c.is-some.ensures (by_reading c.args.contract.now c.read-contract.result c.read-contract.ensures)
+returns c = Decides-at _ _ c.is_some.ensures (by_reading c.args.contract.now c.read_contract.result c.read_contract.ensures)

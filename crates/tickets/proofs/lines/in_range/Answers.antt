@@ -9,7 +9,7 @@ returns c =
     (Decides-and _ _
     (Decides-and _ _
     (Decides-and _ _
-    (Decides-and _ _ (Decides-and _ _ c.contract-in-range.ensures c.within.ensures) c.within-2.ensures)
+    (Decides-and _ _ (Decides-and _ _ c.contract_in_range.ensures c.within.ensures) c.within-2.ensures)
     c.within-3.ensures)
     c.within-4.ensures)
     c.within-5.ensures)

@@ -13,10 +13,10 @@ returns-in-Ticket c =
     let ref = c.args.self.now.market in
     let ws = words (body_of c.args.line.now) in
     let minute = c.in-Ticket.minute in
-    let a = c.answer-ticket.result in
+    let a = c.answer_ticket.result in
     let line = c.in-Ticket.ensures in
     let k = kept_ticket line.reading minute (kept_legs c.in-Ticket.legs) line.kept in (
       ticket minute k.0,
       (subst (LineReads ref ws) k.1 line.reads, subst (Says ref ws) k.1 line.says),
-      ((a, answered minute k.0 a (subst (λ (l : List PlainLeg). TicketAnswer minute l a) (c.as-slice.ensures ∙ k.2) c.answer-ticket.ensures), refl), refl),
+      ((a, answered minute k.0 a (subst (λ (l : List PlainLeg). TicketAnswer minute l a) (c.as_slice.ensures ∙ k.2) c.answer_ticket.ensures), refl), refl),
     )

@@ -12,8 +12,8 @@ use Rattle.sheet.specs.Read.{all_in_form, all_sound, as_told}
 use Rattle.sheet.proofs.Settled.{not_refused, settled}
 use Rattle.sheet.proofs.sheet.Sheet.new.Goals as goal
 
-pub out-of-form-requires : goal.out-of-form-requires
-out-of-form-requires c =
+pub out_of_form-requires : goal.out_of_form-requires
+out_of_form-requires c =
     let h = c.in-Some.ensures in
     let e = length-map c.deref.result.now rule_of in
     let l = c.deref.ensures.len in
@@ -26,26 +26,26 @@ pub returns-in-Some : goal.returns-in-Some
 returns-in-Some c =
     let first = subst (λ (xs : List Record). FirstOutOfForm (map rule_of xs) (c.in-Some.place + 1)) c.deref.ensures.value c.in-Some.ensures in
     let rules = map rule_of (vec_items c.args.records) in
-    let so = subst (λ (e : CatalogueRefusal). SheetOf rules (Err e)) (sym c.out-of-form.ensures) first in
-    record { outcome = so; refused = settled rules c.out-of-form.result so }
+    let so = subst (λ (e : CatalogueRefusal). SheetOf rules (Err e)) (sym c.out_of_form.ensures) first in
+    record { outcome = so; refused = settled rules c.out_of_form.result so }
 
-pub returns-then-not-few-enough : goal.returns-then-not-few-enough
-returns-then-not-few-enough c =
+pub returns-then-not-few_enough : goal.returns-then-not-few_enough
+returns-then-not-few_enough c =
     let records = c.args.records in
     let e = length-map (vec_items records) rule_of in
     let o = records.ok.0 in
-    let n = not_from_Decides _ c.few-enough.ensures c.if-not-few-enough.true in
+    let n = not_from_Decides _ c.few_enough.ensures c.if-not-few_enough.true in
     let so : SheetOf (map rule_of (vec_items records)) (Err TooManyRecords) = (
-      subst (λ (xs : List Record). All InForm (map rule_of xs)) c.deref.ensures.value (all_in_form c.deref.result.now c.in-default.ensures),
+      subst (λ (xs : List Record). All InForm (map rule_of xs)) c.deref.ensures.value (all_in_form c.deref.result.now c.in_default.ensures),
       omega arith,
     ) in
     record { outcome = so; refused = settled (map rule_of (vec_items records)) TooManyRecords so }
 
-pub invariant-of-result : goal.invariant-of-result
-invariant-of-result c =
+pub invariant_of-result : goal.invariant_of-result
+invariant_of-result c =
     let records = c.args.records in
-    let f = subst (λ (xs : List Record). All InForm (map rule_of xs)) c.deref.ensures.value (all_in_form c.deref.result.now c.in-default.ensures) in
-    let few = c.few-enough.ensures.0 c.if-not-few-enough.false in
+    let f = subst (λ (xs : List Record). All InForm (map rule_of xs)) c.deref.ensures.value (all_in_form c.deref.result.now c.in_default.ensures) in
+    let few = c.few_enough.ensures.0 c.if-not-few_enough.false in
     (omega arith, (all_sound (vec_items records) f, tt))
 
 pub returns : goal.returns
@@ -53,8 +53,8 @@ returns c =
     let records = c.args.records in
     let e = length-map (vec_items records) rule_of in
     let o = records.ok.0 in
-    let few = c.few-enough.ensures.0 c.if-not-few-enough.false in
-    let formed = subst (λ (xs : List Record). All InForm (map rule_of xs)) c.deref.ensures.value (all_in_form c.deref.result.now c.in-default.ensures) in
+    let few = c.few_enough.ensures.0 c.if-not-few_enough.false in
+    let formed = subst (λ (xs : List Record). All InForm (map rule_of xs)) c.deref.ensures.value (all_in_form c.deref.result.now c.in_default.ensures) in
     let less : length (map rule_of (vec_items records)) ≤ 64 = omega arith in
     record {
       outcome = record { in_form = formed; few = less; entries = refl; means = as_told (map rule_of (vec_items records)) };
