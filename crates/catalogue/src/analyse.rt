@@ -32,7 +32,7 @@ fn tell<C: Catalogue>(
 ) -> (usize, u8, u32)
     requires { fit.2 < length (seating_table (length (legs_of ticket.now))) }
     ensures answer { result ≡ (fit.0, direction_number fit.1, ticket.now.scale) }
-    ensures named { strategy.new ≡ (numbered (entries catalogue.now) fit.0).type }
+    ensures named { strategy.new ≡ (numbered (C.entries catalogue.now) fit.0).type }
     ensures seated { seating.new ≡ slice_index_or (seating_table (length (legs_of ticket.now))) fit.2 [] }
 {
     let (entry, direction, place) = fit;
@@ -52,11 +52,11 @@ pub fn analyse<C: Catalogue>(
     ensures refused { (e : TicketRefusal) → Refused minute legs.now e →
         outcome result strategy.new seating.new ≡ refused_with (ticket_fault e) (held strategy.old seating.old) }
     ensures answered { (t : Ticket) → Clear minute legs.now → TicketOf legs.now t →
-        outcome result strategy.new seating.new ≡ analysis_of (entries catalogue.now) t (held strategy.old seating.old) }
-    ensures named { Analysed (entries catalogue.now) minute legs.now (held strategy.old seating.old) result (held strategy.new seating.new) }
-    ensures untyped { (result ≡ Err (catalogue_fault NoEntryFits) → Nameless (entries catalogue.now) minute legs.now)
-        × (Nameless (entries catalogue.now) minute legs.now → result ≡ Err (catalogue_fault NoEntryFits)) }
-    ensures same_strategy { SameName (entries catalogue.now) minute legs.now result (held strategy.new seating.new) }
+        outcome result strategy.new seating.new ≡ analysis_of (C.entries catalogue.now) t (held strategy.old seating.old) }
+    ensures named { Analysed (C.entries catalogue.now) minute legs.now (held strategy.old seating.old) result (held strategy.new seating.new) }
+    ensures untyped { (result ≡ Err (catalogue_fault NoEntryFits) → Nameless (C.entries catalogue.now) minute legs.now)
+        × (Nameless (C.entries catalogue.now) minute legs.now → result ≡ Err (catalogue_fault NoEntryFits)) }
+    ensures same_strategy { SameName (C.entries catalogue.now) minute legs.now result (held strategy.new seating.new) }
 {
     let ticket = check(minute, legs)?;
     let fit = search(catalogue, ticket.legs())?;

@@ -20,7 +20,7 @@ fn fits_so<C: Catalogue>(
     requires some { 1 ≤ length legs.now }
     requires few { length legs.now ≤ 4 }
     requires known { All (λ k. (1 ≤ k) × (k ≤ length legs.now)) (take (length legs.now) seating.now) }
-    ensures { result ≡ fitting (entries catalogue.now) legs.now (candidate number direction (take (length legs.now) seating.now)) }
+    ensures { result ≡ fitting (C.entries catalogue.now) legs.now (candidate number direction (take (length legs.now) seating.now)) }
 {
     let row = seated(legs, seating, direction);
     catalogue.fits(number, &row[0..legs.len()])
@@ -33,7 +33,7 @@ pub(crate) fn search<C: Catalogue>(
 ) -> Result<(usize, Direction, usize), CatalogueRefusal>
     requires two { 2 ≤ length legs.now }
     requires four { length legs.now ≤ 4 }
-    ensures { Searched (entries catalogue.now) legs.now result }
+    ensures { Searched (C.entries catalogue.now) legs.now result }
 {
     let table = seatings_of(legs.len());
     let count = catalogue.count();
