@@ -63,7 +63,7 @@ module _ (es : List Entry) (minute : ℕ) (legs : List PlainLeg) (lent : Places)
       pub answered : (t : Ticket) → Clear minute legs → TicketOf legs t → outcome r after.type after.seating ≡ analysis_of es t lent
       pub named : Analysed es minute legs lent r after
       pub untyped : (r ≡ Err (catalogue_fault NoEntryFits) → Nameless es minute legs) × (Nameless es minute legs → r ≡ Err (catalogue_fault NoEntryFits))
-      pub same-strategy : SameName es minute legs r after
+      pub same_strategy : SameName es minute legs r after
 
   clauses :
       (r : Result (ℕ × ℕ × ℕ) Fault) (after : Places) →
@@ -77,7 +77,7 @@ module _ (es : List Entry) (minute : ℕ) (legs : List PlainLeg) (lent : Places)
         answered = answered;
         named = named;
         untyped = (untyped_nameless r after named, nameless_untyped r after named);
-        same-strategy = same_name es minute legs lent r after named;
+        same_strategy = same_name es minute legs lent r after named;
       }
 
   -- the check refused
@@ -149,8 +149,8 @@ module _ (es : List Entry) (minute : ℕ) (legs : List PlainLeg) (lent : Places)
       found : Searched es (legs_of t) (Ok fit)
       found = subst (λ (l : List Leg). Searched es l (Ok fit)) is searched
 
-      pub place-told : fit.2 < length (seating_table (length (legs_of t)))
-      place-told =
+      pub place_told : fit.2 < length (seating_table (length (legs_of t)))
+      place_told =
           let h = found.0 in
           let e = table_length (length (legs_of t)) two_legs four_legs (seating_table (length (legs_of t))) refl in
           omega arith

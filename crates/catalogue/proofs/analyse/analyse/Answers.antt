@@ -6,7 +6,7 @@ use Rattle.tickets.specs.declared.ticket.Ticket.{Ticket}
 use Rattle.catalogue.specs.Analysis.{held}
 use Rattle.catalogue.specs.Refusals.{catalogue_fault}
 use Rattle.catalogue.specs.Search.{first_fit}
-use Rattle.catalogue.proofs.Outcomes.{refused_clauses, none_clauses, place-told, found-clauses}
+use Rattle.catalogue.proofs.Outcomes.{refused_clauses, none_clauses, place_told, found-clauses}
 use Rattle.catalogue.proofs.analyse.analyse.Goals as goal
 
 abbrev failed : Fault → Result (ℕ × ℕ × ℕ) Fault
@@ -23,7 +23,7 @@ returns-in_err-ticket g c =
     let k =
     refused_clauses (g.C.Catalogue.entries c.args.catalogue.now) c.args.minute c.args.legs.now (held c.args.strategy.now c.args.seating.now)
     c.from_residual.result e (q.1 ∙ ap failed q.2) ((w e).0 refl) (λ f h. same_refusal e f ((w f).1 h)) in
-    record { refused = k.refused; answered = k.answered; named = k.named; untyped = k.untyped; same-strategy = k.same_strategy }
+    record { refused = k.refused; answered = k.answered; named = k.named; untyped = k.untyped; same_strategy = k.same_strategy }
 
 pub returns-in_err-fit : goal.returns-in_err-fit
 returns-in_err-fit g c =
@@ -35,12 +35,12 @@ returns-in_err-fit g c =
     let k =
     none_clauses es c.args.minute c.args.legs.now (held c.args.strategy.now c.args.seating.now) c.in_ok-ticket.ticket v.0 v.1
     r (q.1 ∙ ap failed (q.2 ∙ ap catalogue_fault w.0)) (ap (first_fit es) (sym c.legs.ensures) ∙ w.1) in
-    record { refused = k.refused; answered = k.answered; named = k.named; untyped = k.untyped; same-strategy = k.same_strategy }
+    record { refused = k.refused; answered = k.answered; named = k.named; untyped = k.untyped; same_strategy = k.same_strategy }
 
 pub tell-requires : goal.tell-requires
 tell-requires g c =
     let v = c.in_ok-ticket.ensures.accepted in
-    place-told (g.C.Catalogue.entries c.args.catalogue.now) c.args.minute c.args.legs.now (held c.args.strategy.now c.args.seating.now)
+    place_told (g.C.Catalogue.entries c.args.catalogue.now) c.args.minute c.args.legs.now (held c.args.strategy.now c.args.seating.now)
     c.in_ok-ticket.ticket v.0 v.1 c.in_ok-fit.fit _ c.legs.ensures c.in_ok-fit.ensures
 
 pub returns : goal.returns
@@ -50,4 +50,4 @@ returns g c =
     found-clauses (g.C.Catalogue.entries c.args.catalogue.now) c.args.minute c.args.legs.now (held c.args.strategy.now c.args.seating.now)
     c.in_ok-ticket.ticket v.0 v.1 c.in_ok-fit.fit _ c.legs.ensures c.in_ok-fit.ensures
     c.tell.result (held c.tell.new.strategy c.tell.new.seating) c.tell.ensures.answer c.tell.ensures.named c.tell.ensures.seated in
-    record { refused = k.refused; answered = k.answered; named = k.named; untyped = k.untyped; same-strategy = k.same_strategy }
+    record { refused = k.refused; answered = k.answered; named = k.named; untyped = k.untyped; same_strategy = k.same_strategy }

@@ -81,7 +81,7 @@ returns g c =
           let here : i < length (seatings (length t)) = omega arith in
           subst Told (sym w.found-is) (
             here,
-            hit es t c.count-count.result c.loop-number.number d i here w.loop-place.inv
+            hit es t c.count-count.result c.loop-number.number d i here w.loop-place.invariant
                 _ (ap (λ (l : List Direction). get_or l d Buy) w.directions-direction-items.ensures)
                 _ (place_short (length t) c.requires.two c.requires.four table said i here)
                 w.fits_so.result w.fits_so.ensures w.if-fits_so.true,
