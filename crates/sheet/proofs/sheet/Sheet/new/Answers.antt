@@ -46,7 +46,7 @@ invariant_of-result c =
     let records = c.args.records in
     let f = subst (λ (xs : List Record). All InForm (map rule_of xs)) c.deref.ensures.value (all_in_form c.deref.result.now c.in_default.ensures) in
     let few = c.few_enough.ensures.0 c.if-not-few_enough.false in
-    (omega arith, (all_sound (vec_items records) f, tt))
+    record { few = omega arith; sound = all_sound (vec_items records) f }
 
 pub returns : goal.returns
 returns c =
