@@ -6,7 +6,7 @@ use Rattle.std.proofs.lemmas.Bool.{cond-true, cond-false}
 use Rattle.contracts.specs.declared.leg.Leg.{Leg}
 use Rattle.catalogue.specs.Entries.{Entry}
 use Rattle.catalogue.specs.Seatings.{numbers, seatings}
-use Rattle.catalogue.specs.Search.{Candidate, first, candidate, directions, of_direction, of_entry, candidates, fitting, first_fit}
+use Rattle.catalogue.specs.Search.{Candidate, first, candidate, directions, of_direction, of_entry, fitting, first_fit}
 use Rattle.catalogue.specs.declared.direction.Direction.{Direction}
 use Rattle.catalogue.specs.declared.direction.Direction.TheVariants.{Buy}
 

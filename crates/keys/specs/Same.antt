@@ -1,5 +1,5 @@
 -- Two keys with the same numbers are the same: a range that holds adds nothing. Assumes nothing.
-use Rattle.std.proofs.Common.{◌≡◌, ℕ, ℤ, pos, ◌-ℤ◌, refl, ap, subst, lit≤, arith}
+use Rattle.std.proofs.Common.{◌≡◌, ℕ, pos, ◌-ℤ◌, refl, ap, subst, lit≤, arith}
 use Rattle.std.proofs.lemmas.Bool.Decides.{nat_tests}
 use native.Mathlib.Bridge.{le_prop}
 use Rattle.keys.specs.Orders.{by_number}
