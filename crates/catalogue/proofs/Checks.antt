@@ -1,6 +1,6 @@
 -- Tests that antt computes on a whole table, and what they tell. Assumes nothing.
 use Rattle.std.proofs.Common.{◌≡◌, ℕ, ◌≤◌, Bool, true, false, not, ◌&&◌, eqb, leb, List, [], ◌∷◌, length, refl}
-use Rattle.std.specs.List.{AllByRecursion as All}
+use Rattle.std.specs.List.{AllByRecursion}
 use Rattle.std.proofs.lemmas.Bool.{and_parts, not-true, eqb-true, eqb-false, leb-true}
 use Rattle.catalogue.specs.Seatings.{Distinct, Permutation}
 
@@ -8,7 +8,7 @@ abbrev pub every : {X : Type 0} → (X → Bool) → List X → Bool
 every p [] = true
 every p (x ∷ xs) = p x && every p xs
 
-pub all_every : {X : Type 0} (p : X → Bool) (P : X → Type 0) → ((x : X) → p x ≡ true → P x) → (xs : List X) → every p xs ≡ true → All P xs
+pub all_every : {X : Type 0} (p : X → Bool) (P : X → Type 0) → ((x : X) → p x ≡ true → P x) → (xs : List X) → every p xs ≡ true → AllByRecursion P xs
 all_every p P tells [] t = tt
 all_every p P tells (x ∷ xs) t = let h = and_parts (p x) (every p xs) t in (tells x h.0, all_every p P tells xs h.1)
 

@@ -1,6 +1,6 @@
 -- The seatings are all the permutations, in rising order. Assumes nothing.
 use Rattle.std.proofs.Common.{◌≡◌, ℕ, zero, suc, ◌+◌, ◌<◌, ◌≤◌, Bool, true, false, not, ◌&&◌, List, [], ◌∷◌, ◌++◌, map, length, sym, refl, ap, ◌∙◌, subst, inl, inr, ⊎_elim, arith}
-use Rattle.std.specs.List.{flat_map, AllByRecursion as All}
+use Rattle.std.specs.List.{flat_map, AllByRecursion}
 use Rattle.std.proofs.ByRecursion.{All-weaker}
 use Rattle.std.proofs.lemmas.Bool.{and_parts, not-true, cases_eq}
 use Rattle.catalogue.specs.Seatings.{numbers, Pick, picks, orders, seatings, Permutation, Distinct, In, RisingOrder, Complete, before}
@@ -24,7 +24,7 @@ in_joined f x y [] h k = absurd h
 in_joined f x y (z ∷ xs) h k =
     ⊎_elim (λ e. in_left y (f z) (flat_map f xs) (subst (λ w. In y (f w)) e k)) (λ i. in_right y (f z) (flat_map f xs) (in_joined f x y xs i k)) h
 
-pub all_in : {X : Type 0} (P : X → Type 0) (x : X) (xs : List X) → All P xs → In x xs → P x
+pub all_in : {X : Type 0} (P : X → Type 0) (x : X) (xs : List X) → AllByRecursion P xs → In x xs → P x
 all_in P x [] a h = absurd h
 all_in P x (y ∷ ys) a h = ⊎_elim (λ e. subst P (sym e) a.0) (λ k. all_in P x ys a.1 k) h
 
@@ -60,17 +60,17 @@ take_out y (x ∷ xs) h =
     })
     h
 
-both : {X : Type 0} (P Q R : X → Type 0) → ((x : X) → P x → Q x → R x) → (xs : List X) → All P xs → All Q xs → All R xs
+both : {X : Type 0} (P Q R : X → Type 0) → ((x : X) → P x → Q x → R x) → (xs : List X) → AllByRecursion P xs → AllByRecursion Q xs → AllByRecursion R xs
 both P Q R f [] p q = tt
 both P Q R f (x ∷ xs) p q = (f x p.0 q.0, both P Q R f xs p.1 q.1)
 
-pub orders_whole : (m : ℕ) (xs s : List ℕ) → length s ≡ m → All (λ k. In k xs) s → Distinct s → In s (orders m xs)
+pub orders_whole : (m : ℕ) (xs s : List ℕ) → length s ≡ m → AllByRecursion (λ k. In k xs) s → Distinct s → In s (orders m xs)
 orders_whole zero xs [] e a d = inl refl
 orders_whole zero xs (y ∷ s) e a d = absurd (omega arith)
 orders_whole (suc m) xs [] e a d = absurd (omega arith)
 orders_whole (suc m) xs (y ∷ s) e a d =
     let t = take_out y xs a.0 in
-    let rest : All (λ k. In k t.pick.left) s = both (λ k. In k xs) (λ k. y ≡ k → ⊥) (λ k. In k t.pick.left) (λ k i ne. t.others k i ne) s a.1 d.0 in
+    let rest : AllByRecursion (λ k. In k t.pick.left) s = both (λ k. In k xs) (λ k. y ≡ k → ⊥) (λ k. In k t.pick.left) (λ k i ne. t.others k i ne) s a.1 d.0 in
     let inner = orders_whole m t.pick.left s (omega arith) rest d.1 in
     let here : In (y ∷ s) (map (λ z. t.pick.taken ∷ z) (orders m t.pick.left)) = subst (λ v. In (v ∷ s) (map (λ z. t.pick.taken ∷ z) (orders m t.pick.left))) t.is (in_map (λ z. t.pick.taken ∷ z) s (orders m t.pick.left) inner) in
     in_joined (λ p. map (λ z. p.taken ∷ z) (orders m p.left)) t.pick (y ∷ s) (picks xs) t.among here

@@ -1,6 +1,6 @@
 -- The seatings of 2 to 4 legs. Assumes nothing.
 use Rattle.std.proofs.Common.{◌≡◌, ℕ, zero, suc, ◌<◌, ◌≤◌, Bool, true, ◌&&◌, leb, List, [], map, length, get_or, take, refl, ap, ◌∙◌, arith}
-use Rattle.std.specs.List.{AllByRecursion as All}
+use Rattle.std.specs.List.{AllByRecursion}
 use Rattle.std.proofs.lemmas.List.{get_or-map, length-map}
 use Rattle.std.proofs.ByRecursion.{All-get_or}
 use Rattle.std.proofs.lemmas.Bool.{and_parts, and_from, cond-true, le-leb}
@@ -30,7 +30,7 @@ all_good : (n : ℕ) → 2 ≤ n → n ≤ 4 → every (good n) (seatings n) ≡
 unfolding seatings good
 all_good = by_legs (λ n. every (good n) (seatings n) ≡ true) refl refl refl
 
-pub all_seated : (n : ℕ) → 2 ≤ n → n ≤ 4 → All (Good n) (seatings n)
+pub all_seated : (n : ℕ) → 2 ≤ n → n ≤ 4 → AllByRecursion (Good n) (seatings n)
 all_seated n low high = all_every (good n) (Good n) (good_true n) (seatings n) (all_good n low high)
 
 -- of the seating at a place of the code's table
@@ -51,5 +51,5 @@ module _ (n : ℕ) (low : 2 ≤ n) (high : n ≤ 4) (table : List (List ℕ)) (i
     pub place_permutes : Permutation n (get_or (seatings n) i [])
     place_permutes = (All-get_or (Good n) (seatings n) i [] within (all_seated n low high)).1
 
-    pub place_legs : All (λ k. (1 ≤ k) × (k ≤ n)) (take n (get_or table i []))
+    pub place_legs : AllByRecursion (λ k. (1 ≤ k) × (k ≤ n)) (take n (get_or table i []))
     place_legs = rw place_short place_permutes.legs

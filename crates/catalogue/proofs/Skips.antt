@@ -1,6 +1,6 @@
 -- An entry of another number of roles has no fit, so the search may pass it over. Assumes nothing.
 use Rattle.std.proofs.Common.{◌≡◌, ℕ, ◌+◌, ◌<◌, ◌≤◌, Bool, false, eqb, List, [], ◌∷◌, length, None, sym, refl, ap, ◌∙◌}
-use Rattle.std.specs.List.{AllByRecursion as All}
+use Rattle.std.specs.List.{AllByRecursion}
 use Rattle.std.proofs.lemmas.List.{length-map}
 use Rattle.std.proofs.ByRecursion.{All-append, All-map, All-weaker}
 use Rattle.std.proofs.lemmas.Bool.{cond-false, and_left, ne_eqb}
@@ -15,7 +15,7 @@ use Rattle.catalogue.proofs.Seats.{Good, all_seated}
 use Rattle.catalogue.proofs.Firsts.{first_append, or_else}
 use Rattle.catalogue.proofs.Rest.{Goes, from_entry, from_direction, entry_begins}
 
-first_none : {X : Type 0} (p : X → Bool) (xs : List X) → All (λ x. p x ≡ false) xs → first p xs ≡ None
+first_none : {X : Type 0} (p : X → Bool) (xs : List X) → AllByRecursion (λ x. p x ≡ false) xs → first p xs ≡ None
 first_none p [] a = refl
 first_none p (x ∷ xs) a = cond-false (p x) _ _ a.0 ∙ first_none p xs a.1
 
@@ -25,7 +25,7 @@ module _ (es : List Entry) (ticket : List Leg) (n : ℕ) (low : 2 ≤ length tic
       let e : length (row d ticket s) ≡ length ticket = length-map s (λ k. faced d (leg_of ticket k)) ∙ g.1.long in
       and_left (eqb (length (row d ticket s)) (numbered es n).roles) _ (ne_eqb (length (row d ticket s)) (numbered es n).roles (λ h. ne (sym h ∙ e)))
 
-  one_direction : (d : Direction) → All (λ x. fitting es ticket x ≡ false) (of_direction (length ticket) n d)
+  one_direction : (d : Direction) → AllByRecursion (λ x. fitting es ticket x ≡ false) (of_direction (length ticket) n d)
   one_direction d = All-map (λ x. fitting es ticket x ≡ false) (candidate n d) (seatings (length ticket)) (All-weaker (Good (length ticket)) (λ s. fitting es ticket (candidate n d s) ≡ false) (unfit d) (seatings (length ticket)) (all_seated (length ticket) low high))
 
   none_here : first (fitting es ticket) (of_entry (length ticket) n) ≡ None

@@ -1,6 +1,6 @@
 -- Permutations one after another, and back. Assumes nothing.
 use Rattle.std.proofs.Common.{◌≡◌, ℕ, zero, suc, ◌-◌, ◌<◌, ◌≤◌, Bool, true, cond, ◌&&◌, eqb, List, [], ◌∷◌, map, length, get_or, sym, refl, ap, ◌∙◌, arith}
-use Rattle.std.specs.List.{AllByRecursion as All}
+use Rattle.std.specs.List.{AllByRecursion}
 use Rattle.std.proofs.lemmas.List.{get_or-map, length-map}
 use Rattle.std.proofs.ByRecursion.{All-get_or, All-weaker, All-map}
 use Rattle.std.proofs.lemmas.Bool.{and_parts}
@@ -23,7 +23,7 @@ abbrev pub Known : ℕ → ℕ → Type 0
 Known n k = (1 ≤ k) × (k ≤ n)
 
 -- two equal functions on the elements of a list
-map_same : {X Y : Type 0} (P : X → Type 0) (f g : X → Y) → ((x : X) → P x → f x ≡ g x) → (xs : List X) → All P xs → map f xs ≡ map g xs
+map_same : {X Y : Type 0} (P : X → Type 0) (f g : X → Y) → ((x : X) → P x → f x ≡ g x) → (xs : List X) → AllByRecursion P xs → map f xs ≡ map g xs
 map_same P f g e [] a = refl
 map_same P f g e (x ∷ xs) a = let p = e x a.0 in let q = map_same P f g e xs a.1 in cc
 
@@ -42,7 +42,7 @@ distinct_get_d (x ∷ xs) d (suc i) zero hi hj e = absurd (apart_get_d x xs d.0 
 distinct_get_d (x ∷ xs) d (suc i) (suc j) hi hj e = ap suc (distinct_get_d xs d.1 i j (omega arith) (omega arith) e)
 
 module _ (n : ℕ) (o : List ℕ) (po : Permutation n o) where
-  apart_then : (k : ℕ) → Known n k → (s : List ℕ) → All (Known n) s → Apart k s → Apart (get_or o (k - 1) 0) (then o s)
+  apart_then : (k : ℕ) → Known n k → (s : List ℕ) → AllByRecursion (Known n) s → Apart k s → Apart (get_or o (k - 1) 0) (then o s)
   apart_then k lk [] ls a = tt
   apart_then k lk (j ∷ s) ls a =
       let long = po.long in
@@ -51,7 +51,7 @@ module _ (n : ℕ) (o : List ℕ) (po : Permutation n o) where
         apart_then k lk s ls.1 a.1,
       )
 
-  distinct_then : (s : List ℕ) → All (Known n) s → Distinct s → Distinct (then o s)
+  distinct_then : (s : List ℕ) → AllByRecursion (Known n) s → Distinct s → Distinct (then o s)
   distinct_then [] ls d = tt
   distinct_then (k ∷ s) ls d = (apart_then k ls.0 s ls.1 d.0, distinct_then s ls.1 d.1)
 

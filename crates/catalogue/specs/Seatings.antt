@@ -1,10 +1,10 @@
 -- Seatings: each role gets one leg, and each leg one role. Assumes nothing.
 use Rattle.std.specs.Prelude.{◌≡◌, ℕ, zero, suc, ◌≤◌, Bool, true, false, cond, ◌&&◌, ◌||◌, ◌⊎◌, List, [], ◌∷◌, ◌++◌, map, length, take, ◌==◌, ◌≢◌, nat_le, nat_lt}
-use Rattle.std.specs.List.{flat_map, AllByRecursion as All}
+use Rattle.std.specs.List.{flat_map, AllByRecursion}
 
 -- x is none of these
 abbrev pub Apart : ℕ → List ℕ → Type 0
-Apart x ys = All (λ y. x ≢ y) ys
+Apart x ys = AllByRecursion (λ y. x ≢ y) ys
 
 abbrev pub Distinct : List ℕ → Type 0
 Distinct [] = Unit {0}
@@ -13,7 +13,7 @@ Distinct (x ∷ xs) = Apart x xs × Distinct xs
 -- a seating of n legs: the leg of role 1, of role 2 and so on, each of the legs 1 to n once
 pub record Permutation (n : ℕ) (s : List ℕ) : Type 0 where
   pub long : length s ≡ n
-  pub legs : All (λ k. (1 ≤ k) × (k ≤ n)) s
+  pub legs : AllByRecursion (λ k. (1 ≤ k) × (k ≤ n)) s
   pub distinct : Distinct s
 
 -- s comes before t: at the first role at which they differ, it has the smaller leg
@@ -61,7 +61,7 @@ In x (y ∷ ys) = (x ≡ y) ⊎ In x ys
 -- each seating comes before all that stand behind it, and none of those comes before it: so none stands twice
 abbrev pub RisingOrder : List (List ℕ) → Type 0
 RisingOrder [] = Unit {0}
-RisingOrder (s ∷ ss) = All (λ z. (before s z ≡ true) × (before z s ≡ false)) ss × RisingOrder ss
+RisingOrder (s ∷ ss) = AllByRecursion (λ z. (before s z ≡ true) × (before z s ≡ false)) ss × RisingOrder ss
 
 -- what the search tries are all the seatings of n legs, each once, in rising order
 pub record Complete (n : ℕ) : Type 0 where

@@ -1,6 +1,6 @@
 // A catalogue by what it means: a list of at most 64 entries, which are numbered from 1.
 ghost use Rattle.std.specs.Prelude.{◌≡◌, ◌≤◌, List, length};
-ghost use Rattle.std.specs.List.{AllByRecursion as All};
+ghost use Rattle.std.specs.List.{AllByRecursion};
 ghost use Rattle.catalogue.specs.Entries.{Entry, Typed, Sized, numbered, suits};
 
 use crate::strategy::StrategyType;
@@ -26,7 +26,7 @@ pub trait Catalogue {
 
     ghost few: { (x : Self) → length (entries x) ≤ 64 };
 
-    ghost typed: { (x : Self) → All Typed (entries x) };
+    ghost typed: { (x : Self) → AllByRecursion Typed (entries x) };
 
-    ghost sized: { (x : Self) → All Sized (entries x) };
+    ghost sized: { (x : Self) → AllByRecursion Sized (entries x) };
 }

@@ -1,6 +1,6 @@
 // The search for the first entry that fits: by entry, then BUY before SELL, then seatings in rising order.
 ghost use Rattle.std.specs.Prelude.{◌≡◌, ◌≤◌, length, take};
-ghost use Rattle.std.specs.List.{AllByRecursion as All};
+ghost use Rattle.std.specs.List.{AllByRecursion};
 ghost use Rattle.catalogue.specs.Search.{candidate, fitting, Searched};
 
 use crate::catalogue::Catalogue;
@@ -19,7 +19,7 @@ fn fits_so<C: Catalogue>(
 ) -> bool
     requires some { 1 ≤ length legs.now }
     requires few { length legs.now ≤ 4 }
-    requires known { All (λ k. (1 ≤ k) × (k ≤ length legs.now)) (take (length legs.now) seating.now) }
+    requires known { AllByRecursion (λ k. (1 ≤ k) × (k ≤ length legs.now)) (take (length legs.now) seating.now) }
     ensures { result ≡ fitting (C.entries catalogue.now) legs.now (candidate number direction (take (length legs.now) seating.now)) }
 {
     let row = seated(legs, seating, direction);

@@ -1,6 +1,6 @@
 // Seatings: which leg plays which role, all of them in rising order.
 ghost use Rattle.std.specs.Prelude.{◌≡◌, ◌≤◌, length, take};
-ghost use Rattle.std.specs.List.{AllByRecursion as All};
+ghost use Rattle.std.specs.List.{AllByRecursion};
 ghost use Rattle.catalogue.specs.Rows.{row as row_of};
 ghost use Rattle.catalogue.specs.Seatings.{seating_table, Complete};
 
@@ -64,7 +64,7 @@ pub fn seatings_of(legs: usize) -> &'static [[u8; 4]]
 pub(crate) fn seated(legs: &[Leg], seating: &[u8; 4], direction: Direction) -> [Leg; 4]
     requires some { 1 ≤ length legs.now }
     requires few { length legs.now ≤ 4 }
-    requires known { All (λ k. (1 ≤ k) × (k ≤ length legs.now)) (take (length legs.now) seating.now) }
+    requires known { AllByRecursion (λ k. (1 ≤ k) × (k ≤ length legs.now)) (take (length legs.now) seating.now) }
     ensures { take (length legs.now) result ≡ row_of direction legs.now (take (length legs.now) seating.now) }
 {
     let mut row = [legs[0]; 4];

@@ -18,16 +18,16 @@ pub same_strike : (x y : Strike) → x.hundredths ≡ y.hundredths → x ≡ y
 same_strike x y e =
     subst (λ (b : ℕ). (r : StrikeRange b) → x ≡ strike b r) e (λ r. ap (strike x.hundredths) (strike_range x.hundredths x.range r)) y.range
 
-abbrev pub month_of_lem : (y m : ℕ) → MonthRange y m → Month
-month_of_lem y m r = record { year = y; month = m; range = r }
+abbrev pub made_month : (y m : ℕ) → MonthRange y m → Month
+made_month y m r = record { year = y; month = m; range = r }
 
 month_range : (y m : ℕ) (p q : MonthRange y m) → p ≡ q
 month_range y m p q = λ i. (le_prop p.0 q.0 i, le_prop p.1 q.1 i, le_prop p.2 q.2 i, le_prop p.3 q.3 i)
 
 pub same_month : (x y : Month) → x.year ≡ y.year → x.month ≡ y.month → x ≡ y
 same_month x y e f =
-    subst (λ (a : ℕ). (r : MonthRange a y.month) → x ≡ month_of_lem a y.month r) e
-    (subst (λ (b : ℕ). (r : MonthRange x.year b) → x ≡ month_of_lem x.year b r) f (λ r. ap (month_of_lem x.year x.month) (month_range x.year x.month x.range r)))
+    subst (λ (a : ℕ). (r : MonthRange a y.month) → x ≡ made_month a y.month r) e
+    (subst (λ (b : ℕ). (r : MonthRange x.year b) → x ≡ made_month x.year b r) f (λ r. ap (made_month x.year x.month) (month_range x.year x.month x.range r)))
     y.range
 
 pub same_index : (x y : Month) → month_index x.year x.month ≡ month_index y.year y.month → x ≡ y
@@ -45,4 +45,4 @@ pub months_same : (x y : Month) → by_number (month_index x.year x.month) (mont
 months_same x y e = same_index x y (grind (arith, nat_tests))
 
 pub months_reached : (x : Month) × (y : Month) × (pos (month_index y.year y.month) -ℤ pos (month_index x.year x.month) ≡ pos 1199)
-months_reached = (month_of_lem 2000 1 (lit≤ tt, lit≤ tt, lit≤ tt, lit≤ tt), month_of_lem 2099 12 (lit≤ tt, lit≤ tt, lit≤ tt, lit≤ tt), refl)
+months_reached = (made_month 2000 1 (lit≤ tt, lit≤ tt, lit≤ tt, lit≤ tt), made_month 2099 12 (lit≤ tt, lit≤ tt, lit≤ tt, lit≤ tt), refl)

@@ -1,6 +1,6 @@
 -- A sheet of given records has one outcome. Assumes nothing.
 use Rattle.std.proofs.Common.{◌≡◌, ℕ, ◌-◌, ◌<◌, ◌≤◌, List, [], ◌∷◌, length, take, Err, Result, refl, ap, subst, ⊎_elim, arith, length-take}
-use Rattle.std.specs.List.{AllByRecursion as All}
+use Rattle.std.specs.List.{AllByRecursion}
 use Rattle.std.proofs.ByRecursion.{All-get_or}
 use Rattle.std.proofs.lemmas.List.{get_or-take}
 use Rattle.std.proofs.lemmas.Bool.{cases_order}
@@ -12,7 +12,7 @@ use Rattle.sheet.specs.Sheets.{FirstOutOfForm, SheetOf}
 use Rattle.sheet.specs.declared.sheet.Sheet.{Sheet}
 
 -- where all are in form, none is the first that is not
-never_first : (rules : List Rule) (n : ℕ) → All InForm rules → FirstOutOfForm rules n → ⊥
+never_first : (rules : List Rule) (n : ℕ) → AllByRecursion InForm rules → FirstOutOfForm rules n → ⊥
 never_first [] n a f = let low = f.low in let high = f.high in absurd (omega arith)
 never_first (r ∷ rs) n a f =
     let low = f.low in
@@ -38,7 +38,7 @@ abbrev refused_at : ℕ → Result Sheet CatalogueRefusal
 refused_at n = Err (OutOfForm n)
 
 -- few records that are all in form meet no refusal
-pub not_refused : (rules : List Rule) → All InForm rules → length rules ≤ 64 → (e : CatalogueRefusal) → SheetOf rules (Err e) → ⊥
+pub not_refused : (rules : List Rule) → AllByRecursion InForm rules → length rules ≤ 64 → (e : CatalogueRefusal) → SheetOf rules (Err e) → ⊥
 not_refused rules a few (OutOfForm n) t = never_first rules n a t
 not_refused rules a few TooManyRecords t = let many = t.1 in absurd (omega arith)
 not_refused rules a few NoEntryFits t = t

@@ -1,12 +1,12 @@
 -- A test that passes everywhere in a list, element by element. Assumes nothing.
 use Rattle.std.specs.Prelude.{◌≡◌, ℕ, ◌+◌, ◌<◌, ◌≤◌, Bool, true, false, ◌&&◌, List, length, drop, Decides, slice_index_or, refl}
 use Rattle.std.proofs.Common.{sym, ap, ◌∙◌}
-use Rattle.std.specs.List.{AllByRecursion as All}
+use Rattle.std.specs.List.{AllByRecursion}
 use Rattle.std.proofs.ByRecursion.{All-get_or, Decides-by_and}
 use Rattle.std.proofs.lemmas.List.{at_drop_more, at_drop_all}
 use Rattle.sheet.specs.Forms.{everywhere}
 
-pub everywhere_decides : {X : Type 0} (p : X → Bool) (P : X → Type 0) → ((x : X) → Decides (p x) (P x)) → (xs : List X) → Decides (everywhere p xs) (All P xs)
+pub everywhere_decides : {X : Type 0} (p : X → Bool) (P : X → Type 0) → ((x : X) → Decides (p x) (P x)) → (xs : List X) → Decides (everywhere p xs) (AllByRecursion P xs)
 everywhere_decides p P each xs = Decides-by_and p P (everywhere p) each refl (λ _ _. refl) xs
 
 pub everywhere_at : {X : Type 0} (p : X → Bool) (xs : List X) (i : ℕ) (d : X) → i < length xs → everywhere p xs ≡ true → p (slice_index_or xs i d) ≡ true

@@ -1,6 +1,6 @@
 -- Which records are in form. Assumes nothing.
 use Rattle.std.specs.Prelude.{◌≡◌, ℕ, ◌≤◌, Bool, true, not, ◌&&◌, List, [], ◌∷◌, length, ◌==◌, ◌≢◌, nat_le}
-use Rattle.std.specs.List.{AllByRecursion as All}
+use Rattle.std.specs.List.{AllByRecursion}
 use Rattle.contracts.specs.Ranges.{code_character}
 use Rattle.sheet.specs.Rules.{Rule}
 use Rattle.sheet.specs.declared.record.Relation.{Relation}
@@ -26,9 +26,9 @@ pub record InForm (rule : Rule) : Type 0 where
   pub type_second : code_character rule.strategy.second ≡ true
   pub two_roles : 2 ≤ length rule.roles
   pub four_roles : length rule.roles ≤ 4
-  pub ratios : All RatioInForm rule.roles
+  pub ratios : AllByRecursion RatioInForm rule.roles
   pub six_relations : length rule.relations ≤ 6
-  pub own_roles : All (RelationInForm (length rule.roles)) rule.relations
+  pub own_roles : AllByRecursion (RelationInForm (length rule.roles)) rule.relations
 
 -- a yes or no passes everywhere in a list
 abbrev pub everywhere : {X : Type 0} → (X → Bool) → List X → Bool

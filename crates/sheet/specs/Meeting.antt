@@ -1,7 +1,7 @@
 -- The yes or no of a record's entry tells exactly the rows that meet the record. Assumes nothing.
 use Rattle.std.specs.Prelude.{◌≡◌, ℕ, ◌+◌, ◌<◌, Bool, true, false, cond, List, [], ◌∷◌, length, Decides, ◌==◌, nat_eq, nat_lt, refl}
 use Rattle.std.proofs.Common.{sym, ap, subst, ◌∙◌, arith}
-use Rattle.std.specs.List.{AllByRecursion as All}
+use Rattle.std.specs.List.{AllByRecursion}
 use Rattle.std.proofs.ByRecursion.{All-weaker}
 use Rattle.std.proofs.lemmas.Bool.{false≢true, ltb-true, ltb-false, eqb-true, eqb-false, eq-eqb, and_parts, and_from, cond_both}
 use Rattle.std.proofs.lemmas.Bool.Decides.{Decides-and, Decides-eqb, Decides-like}
@@ -153,7 +153,7 @@ agrees_decides x y = Decides-and _ _ (root_decides (root_of x.contract) (root_of
 
 abbrev Pairs : List Leg → Type 0
 Pairs [] = Unit {0}
-Pairs (x ∷ row) = All (Alike x) row × Pairs row
+Pairs (x ∷ row) = AllByRecursion (Alike x) row × Pairs row
 
 pairs_decides : (row : List Leg) → Decides (all_agree row) (Pairs row)
 pairs_decides [] = (λ _. tt, λ _. refl)
@@ -169,18 +169,18 @@ on_shared : (g : Right) (r : Root) (m : Month) (s : Strike) (u : Underlying) (y 
 on_shared g r m s u (contract.Future root month) e = tt
 on_shared g r m s u (contract.Option right root month strike v) e = sym e
 
-on_found : (c : Contract) (row : List Leg) → All (λ y. Shares c y.contract) row → (u : Underlying) × All (OnIt u) row → (u : Underlying) × OnlyOn u c × All (OnIt u) row
+on_found : (c : Contract) (row : List Leg) → AllByRecursion (λ y. Shares c y.contract) row → (u : Underlying) × AllByRecursion (OnIt u) row → (u : Underlying) × OnlyOn u c × AllByRecursion (OnIt u) row
 on_found (contract.Future root month) row h rest = (rest.0, tt, rest.1)
 on_found (contract.Option g r m s u) row h rest =
     (u, refl, All-weaker (λ y. Shares (contract.Option g r m s u) y.contract) (OnIt u) (λ y e. on_shared g r m s u y.contract e) row h)
 
-underlying_found : (row : List Leg) → Pairs row → (u : Underlying) × All (OnIt u) row
+underlying_found : (row : List Leg) → Pairs row → (u : Underlying) × AllByRecursion (OnIt u) row
 underlying_found [] h = (on.Spot, tt)
 underlying_found (x ∷ row) h =
     let f = on_found x.contract row (All-weaker (Alike x) (λ y. Shares x.contract y.contract) (λ y a. a.1) row h.0) (underlying_found row h.1) in
     (f.0, (f.1, f.2))
 
-root_found : (row : List Leg) → Pairs row → (r : Root) × All (OfIt r) row
+root_found : (row : List Leg) → Pairs row → (r : Root) × AllByRecursion (OfIt r) row
 root_found [] h = (root_of no_leg.contract, tt)
 root_found (x ∷ row) h = (root_of x.contract, (refl, All-weaker (Alike x) (OfIt (root_of x.contract)) (λ y a. sym a.0) row h.0))
 
@@ -190,11 +190,11 @@ module _ (r : Root) (u : Underlying) where
   shared (contract.Option right root month strike v) (contract.Future root' month') p q = tt
   shared (contract.Option right root month strike v) (contract.Option right' root' month' strike' w) p q = p ∙ sym q
 
-  all_alike : (x : Leg) → OfIt r x → OnIt u x → (row : List Leg) → All (OfIt r) row → All (OnIt u) row → All (Alike x) row
+  all_alike : (x : Leg) → OfIt r x → OnIt u x → (row : List Leg) → AllByRecursion (OfIt r) row → AllByRecursion (OnIt u) row → AllByRecursion (Alike x) row
   all_alike x p q [] ps qs = tt
   all_alike x p q (y ∷ row) ps qs = ((p ∙ sym ps.0, shared x.contract y.contract q qs.0), all_alike x p q row ps.1 qs.1)
 
-  pairs : (row : List Leg) → All (OfIt r) row → All (OnIt u) row → Pairs row
+  pairs : (row : List Leg) → AllByRecursion (OfIt r) row → AllByRecursion (OnIt u) row → Pairs row
   pairs [] ps qs = tt
   pairs (x ∷ row) ps qs = (all_alike x ps.0 qs.0 row ps.1 qs.1, pairs row ps.1 qs.1)
 

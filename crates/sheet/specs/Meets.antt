@@ -1,6 +1,6 @@
 -- Which rows of legs a record asks for. Assumes nothing.
 use Rattle.std.specs.Prelude.{◌≡◌, ℕ, ◌<◌, true, List, [], ◌∷◌, pos, ◌-ℤ◌}
-use Rattle.std.specs.List.{AllByRecursion as All}
+use Rattle.std.specs.List.{AllByRecursion}
 use Rattle.keys.specs.Ranges.{month_index}
 use Rattle.contracts.specs.Ladder.{root_of, month_of}
 use Rattle.contracts.specs.declared.contract.Contract.{Contract}
@@ -48,8 +48,8 @@ OnlyOn u (contract.Option right root month strike v) = v ≡ u
 pub record OneMarket (row : List Leg) : Type 0 where
   pub root : Root
   pub underlying : Underlying
-  pub of_root : All (λ leg. root_of leg.contract ≡ root) row
-  pub on_underlying : All (λ leg. OnlyOn underlying leg.contract) row
+  pub of_root : AllByRecursion (λ leg. root_of leg.contract ≡ root) row
+  pub on_underlying : AllByRecursion (λ leg. OnlyOn underlying leg.contract) row
 
 -- what an aspect reads off a contract: the strike in hundredths, which a future has not, or the index of the month
 abbrev pub Reads : Aspect → Contract → ℕ → Type 0
@@ -90,4 +90,4 @@ Holds row (EvenSteps on first second third) = Evenly on (leg_of row first).contr
 pub record Meets (rule : Rule) (row : List Leg) : Type 0 where
   pub roles : Played rule.roles row
   pub mark : rule.marked ≡ true → OneMarket row
-  pub relations : All (Holds row) rule.relations
+  pub relations : AllByRecursion (Holds row) rule.relations

@@ -1,6 +1,6 @@
 -- What becomes of the records that a sheet is made from. Assumes nothing.
 use Rattle.std.specs.Prelude.{◌≡◌, ℕ, ◌-◌, ◌<◌, ◌≤◌, List, map, length, take, Ok, Err, vec_items, Decides, Result, slice_index_or}
-use Rattle.std.specs.List.{AllByRecursion as All}
+use Rattle.std.specs.List.{AllByRecursion}
 use Rattle.contracts.specs.declared.leg.Leg.{Leg}
 use Rattle.catalogue.specs.Entries.{Entry, numbered, suits}
 use Rattle.catalogue.specs.declared.refusal.CatalogueRefusal.{CatalogueRefusal}
@@ -19,7 +19,7 @@ entries_of sheet = map meaning (map rule_of (vec_items sheet.records))
 pub record FirstOutOfForm (rules : List Rule) (n : ℕ) : Type 0 where
   pub low : 1 ≤ n
   pub high : n ≤ length rules
-  pub before : All InForm (take (n - 1) rules)
+  pub before : AllByRecursion InForm (take (n - 1) rules)
   pub faulty : (none : Rule) → InForm (slice_index_or rules (n - 1) none) → ⊥
 
 -- an entry fits a row exactly where the row is what the record of that number asks for
@@ -29,7 +29,7 @@ FitsAsTold rules entries =
 
 -- a sheet of these records
 pub record Made (rules : List Rule) (sheet : Sheet) : Type 0 where
-  pub in_form : All InForm rules
+  pub in_form : AllByRecursion InForm rules
   pub few : length rules ≤ 64
   pub entries : entries_of sheet ≡ map meaning rules
   pub means : FitsAsTold rules (entries_of sheet)
@@ -38,5 +38,5 @@ pub record Made (rules : List Rule) (sheet : Sheet) : Type 0 where
 abbrev pub SheetOf : List Rule → Result Sheet CatalogueRefusal → Type 0
 SheetOf rules (Ok sheet) = Made rules sheet
 SheetOf rules (Err (OutOfForm n)) = FirstOutOfForm rules n
-SheetOf rules (Err TooManyRecords) = All InForm rules × (64 < length rules)
+SheetOf rules (Err TooManyRecords) = AllByRecursion InForm rules × (64 < length rules)
 SheetOf rules (Err NoEntryFits) = ⊥

@@ -1,5 +1,5 @@
 use Rattle.std.proofs.Common.{◌+◌, ◌≤◌, List, map, length, Err, vec_items, sym, refl, subst, arith}
-use Rattle.std.specs.List.{AllByRecursion as All}
+use Rattle.std.specs.List.{AllByRecursion}
 use Rattle.std.proofs.lemmas.List.{length-map}
 use Rattle.std.proofs.lemmas.Bool.Decides.{not_from_Decides}
 use Rattle.catalogue.specs.declared.refusal.CatalogueRefusal.{CatalogueRefusal}
@@ -36,7 +36,7 @@ returns-then-not-few_enough c =
     let o = records.ok.0 in
     let n = not_from_Decides _ c.few_enough.ensures c.if-not-few_enough.true in
     let so : SheetOf (map rule_of (vec_items records)) (Err TooManyRecords) = (
-      subst (λ (xs : List Record). All InForm (map rule_of xs)) c.deref.ensures.value (all_in_form c.deref.result.now c.in_default.ensures),
+      subst (λ (xs : List Record). AllByRecursion InForm (map rule_of xs)) c.deref.ensures.value (all_in_form c.deref.result.now c.in_default.ensures),
       omega arith,
     ) in
     record { outcome = so; refused = settled (map rule_of (vec_items records)) TooManyRecords so }
@@ -44,7 +44,7 @@ returns-then-not-few_enough c =
 pub invariant_of-result : goal.invariant_of-result
 invariant_of-result c =
     let records = c.args.records in
-    let f = subst (λ (xs : List Record). All InForm (map rule_of xs)) c.deref.ensures.value (all_in_form c.deref.result.now c.in_default.ensures) in
+    let f = subst (λ (xs : List Record). AllByRecursion InForm (map rule_of xs)) c.deref.ensures.value (all_in_form c.deref.result.now c.in_default.ensures) in
     let few = c.few_enough.ensures.0 c.if-not-few_enough.false in
     record { few = omega arith; sound = all_sound (vec_items records) f }
 
@@ -54,7 +54,7 @@ returns c =
     let e = length-map (vec_items records) rule_of in
     let o = records.ok.0 in
     let few = c.few_enough.ensures.0 c.if-not-few_enough.false in
-    let formed = subst (λ (xs : List Record). All InForm (map rule_of xs)) c.deref.ensures.value (all_in_form c.deref.result.now c.in_default.ensures) in
+    let formed = subst (λ (xs : List Record). AllByRecursion InForm (map rule_of xs)) c.deref.ensures.value (all_in_form c.deref.result.now c.in_default.ensures) in
     let less : length (map rule_of (vec_items records)) ≤ 64 = omega arith in
     record {
       outcome = record { in_form = formed; few = less; entries = refl; means = as_told (map rule_of (vec_items records)) };
