@@ -7,3 +7,5 @@ mod keys_tests;
 mod notation_tests;
 #[cfg(test)]
 mod script_tests;
+#[cfg(test)]
+mod sheet_tests;
