@@ -2,7 +2,7 @@
 ghost use Rattle.std.specs.Prelude.{◌≡◌, pos, ◌-ℤ◌, MatchOption};
 ghost use Rattle.keys.specs.Orders.{by_number};
 ghost use Rattle.keys.specs.Ranges.{StrikeRange};
-ghost use Rattle.std.proofs.Common.{rules, arith};
+ghost use Rattle.std.proofs.Common.{rules};
 
 use crate::key::{Key, Order, SpacedKey, by_number};
 

@@ -1,7 +1,6 @@
 // The program `uds`: a session script in, an answer out for each of its lines.
 #![tactic(auto)]
 
-use anyhow::anyhow;
 use script::answer::Answer;
 use script::session::Session;
 use script::text::answer_text;
@@ -9,6 +8,7 @@ use std::alloc::Global;
 use std::env;
 use std::fs::File;
 use std::io::{BufRead, BufReader, BufWriter, Write};
+use std::process::ExitCode;
 
 // Answers one line, and says whether it could be read.
 fn answer_line<W: Write>(
@@ -64,11 +64,11 @@ fn run(rt: &HostRuntime) -> anyhow::Result<bool> {
     }
 }
 
-// Ends with status 1 where a line could not be read.
-fn main(rt: HostRuntime) -> anyhow::Result<()> {
+// Ends with status 1 where a line could not be read: its answer has told that.
+fn main(rt: HostRuntime) -> anyhow::Result<ExitCode> {
     if run(&rt)? {
-        Ok(())
+        Ok(ExitCode::SUCCESS)
     } else {
-        Err(anyhow!("a line of the script could not be read"))
+        Ok(ExitCode::FAILURE)
     }
 }
