@@ -1,6 +1,8 @@
 -- What the first fit means. Assumes nothing.
 use Rattle.std.proofs.Common.{◌≡◌, ℕ, ◌<◌, ◌≤◌, Bool, false, eqb, List, [], ◌∷◌, ◌++◌, length, Some, None, Option, sym, refl, ap, ◌∙◌, subst, ⊎_elim, arith}
-use Rattle.std.specs.List.{flat_map}
+use Rattle.std.specs.List.{find, flat_map}
+use Rattle.std.specs.Option.{option_or}
+use Rattle.std.proofs.lemmas.List.Folds.{find-append}
 use Rattle.std.proofs.lemmas.List.{get_or_past}
 use Rattle.std.proofs.lemmas.Bool.{both_ways, and_right, cases_lt}
 use Rattle.contracts.specs.declared.leg.Leg.{Leg}
@@ -8,37 +10,37 @@ use Rattle.catalogue.specs.Entries.{Entry, numbered, suits, no_entry}
 use Rattle.catalogue.specs.Fits.{Fits, FittedBy, Unfitted, FirstFit}
 use Rattle.catalogue.specs.Rows.{row}
 use Rattle.catalogue.specs.Seatings.{seatings, Permutation, Complete}
-use Rattle.catalogue.specs.Search.{Candidate, candidate, first, directions, of_direction, of_entry, fitting, first_fit}
+use Rattle.catalogue.specs.Search.{Candidate, candidate, directions, of_direction, of_entry, fitting, first_fit}
 use Rattle.catalogue.specs.declared.direction.Direction.{Direction}
 use Rattle.catalogue.specs.declared.direction.Direction.TheVariants.{Buy, Sell}
-use Rattle.catalogue.proofs.Firsts.{or_else, first_append, numbers_some, numbers_none, seats_some, seats_none}
+use Rattle.catalogue.proofs.Firsts.{numbers_some, numbers_none, seats_some, seats_none}
 
 -- the first over both directions
 module _ {X : Type 0} (p : X → Bool) (f : Direction → List X) where
   pub record Faced (x : X) : Type 0 where
     pub at : Direction
-    pub is : first p (f at) ≡ Some x
-    pub none_before : at ≡ Sell → first p (f Buy) ≡ None
+    pub is : find p (f at) ≡ Some x
+    pub none_before : at ≡ Sell → find p (f Buy) ≡ None
 
-  parts : first p (flat_map f directions) ≡ or_else (first p (f Buy)) (or_else (first p (f Sell)) None)
-  parts = first_append p (f Buy) (f Sell ++ []) ∙ ap (or_else (first p (f Buy))) (first_append p (f Sell) [])
+  parts : find p (flat_map f directions) ≡ option_or (find p (f Buy)) (option_or (find p (f Sell)) None)
+  parts = find-append p (f Buy) (f Sell ++ []) ∙ ap (option_or (find p (f Buy))) (find-append p (f Sell) [])
 
-  some_faced : (x : X) (b s : Option X) → first p (f Buy) ≡ b → first p (f Sell) ≡ s → or_else b (or_else s None) ≡ Some x → Faced x
-  some_faced x (Some y) s hb hs e = record { at = Buy; is = hb ∙ e; none_before = λ z. let w : ◌≡◌ {A = ℕ} 0 1 = cc in absurd (omega arith) }
+  some_faced : (x : X) (b s : Option X) → find p (f Buy) ≡ b → find p (f Sell) ≡ s → option_or b (option_or s None) ≡ Some x → Faced x
+  some_faced x (Some y) s hb hs e = record { at = Buy; is = hb ∙ e; none_before = λ z. cc }
   some_faced x None (Some y) hb hs e = record { at = Sell; is = hs ∙ e; none_before = λ z. hb }
-  some_faced x None None hb hs e = let w : ◌≡◌ {A = ℕ} 0 1 = cc in absurd (omega arith)
+  some_faced x None None hb hs e = cc
 
-  pub directions_some : (x : X) → first p (flat_map f directions) ≡ Some x → Faced x
-  directions_some x e = some_faced x (first p (f Buy)) (first p (f Sell)) refl refl (sym parts ∙ e)
+  pub directions_some : (x : X) → find p (flat_map f directions) ≡ Some x → Faced x
+  directions_some x e = some_faced x (find p (f Buy)) (find p (f Sell)) refl refl (sym parts ∙ e)
 
-  none_faced : (b s : Option X) → first p (f Buy) ≡ b → first p (f Sell) ≡ s → or_else b (or_else s None) ≡ None → (d : Direction) → first p (f d) ≡ None
-  none_faced (Some y) s hb hs e d = let w : ◌≡◌ {A = ℕ} 0 1 = cc in absurd (omega arith)
-  none_faced None (Some y) hb hs e d = let w : ◌≡◌ {A = ℕ} 0 1 = cc in absurd (omega arith)
+  none_faced : (b s : Option X) → find p (f Buy) ≡ b → find p (f Sell) ≡ s → option_or b (option_or s None) ≡ None → (d : Direction) → find p (f d) ≡ None
+  none_faced (Some y) s hb hs e d = cc
+  none_faced None (Some y) hb hs e d = cc
   none_faced None None hb hs e Buy = hb
   none_faced None None hb hs e Sell = hs
 
-  pub directions_none : first p (flat_map f directions) ≡ None → (d : Direction) → first p (f d) ≡ None
-  directions_none e = none_faced (first p (f Buy)) (first p (f Sell)) refl refl (sym parts ∙ e)
+  pub directions_none : find p (flat_map f directions) ≡ None → (d : Direction) → find p (f d) ≡ None
+  directions_none e = none_faced (find p (f Buy)) (find p (f Sell)) refl refl (sym parts ∙ e)
 
 module _ (es : List Entry) (legs : List Leg) where
   abbrev Never : ℕ → Direction → Type 0
@@ -59,10 +61,10 @@ module _ (es : List Entry) (legs : List Leg) where
   never_beyond n h = never_no_entry n (get_or_past (no_entry ∷ es) n no_entry h)
 
   module _ (whole : Complete (length legs)) where
-    never_seats : (n : ℕ) (d : Direction) → first (fitting es legs) (of_direction (length legs) n d) ≡ None → Never n d
+    never_seats : (n : ℕ) (d : Direction) → find (fitting es legs) (of_direction (length legs) n d) ≡ None → Never n d
     never_seats n d h s p fits = both_ways _ (seats_none (fitting es legs) (candidate n d) (seatings (length legs)) h s (whole.whole s p)) fits
 
-    never_entry : (n : ℕ) → first (fitting es legs) (of_entry (length legs) n) ≡ None → (d : Direction) → Never n d
+    never_entry : (n : ℕ) → find (fitting es legs) (of_entry (length legs) n) ≡ None → (d : Direction) → Never n d
     never_entry n h d = never_seats n d (directions_none (fitting es legs) (of_direction (length legs) n) h d)
 
     pub unfitted : first_fit es legs ≡ None → Unfitted es legs

@@ -1,5 +1,5 @@
 -- What an analysis answers, from what the check and the search found. Assumes nothing.
-use Rattle.std.proofs.Common.{◌≡◌, ℕ, ◌-◌, ◌<◌, ◌≤◌, List, [], length, get_or, Some, None, Ok, Err, Option, Result, sym, refl, ap, ◌∙◌, subst, inl, inr, ⊎_elim, arith}
+use Rattle.std.proofs.Common.{◌≡◌, ℕ, ◌-◌, ◌<◌, ◌≤◌, List, length, get_or, Some, None, Ok, Err, Option, Result, sym, refl, ap, ◌∙◌, subst, inl, inr, ⊎_elim, arith}
 use Rattle.std.proofs.ByRecursion.{All-get_or}
 use Rattle.std.proofs.lemmas.List.{get_or-map}
 use Rattle.contracts.specs.declared.leg.Leg.{Leg}
@@ -19,12 +19,12 @@ use Rattle.catalogue.specs.Fits.{FittedBy}
 use Rattle.catalogue.specs.Refusals.{catalogue_fault}
 use Rattle.catalogue.specs.Rows.{no_leg, faced, direction_number, leg_of, row}
 use Rattle.catalogue.specs.Search.{Candidate, first_fit, Searched}
-use Rattle.catalogue.specs.Seatings.{Permutation, Complete, seating_table}
+use Rattle.catalogue.specs.Seatings.{Permutation, Complete}
 use Rattle.catalogue.specs.declared.direction.Direction.{Direction}
 use Rattle.catalogue.specs.declared.refusal.CatalogueRefusal.TheVariants.{NoEntryFits}
+use Rattle.catalogue.specs.declared.search.Fit.{Fit}
 use Rattle.catalogue.proofs.Named.{unfitted, first_fit_named}
 use Rattle.catalogue.proofs.Perms.{complete}
-use Rattle.catalogue.proofs.Seats.{table_length, place_padded}
 use Rattle.catalogue.specs.Same.{SameName}
 use Rattle.catalogue.proofs.Same.{same_name, fitted}
 use Rattle.catalogue.proofs.Turns.{faced_faced, turned_back}
@@ -45,7 +45,7 @@ failed f = Err f
 module _ (es : List Entry) (minute : ℕ) (legs : List PlainLeg) (lent : Places) where
   -- refusal 12 is told exactly where no entry fits
   pub untyped_nameless : (r : Result (ℕ × ℕ × ℕ) Fault) (after : Places) → Analysed es minute legs lent r after → r ≡ Err (catalogue_fault NoEntryFits) → Nameless es minute legs
-  untyped_nameless (Ok x) after h e = let z : ◌≡◌ {A = ℕ} 0 1 = cc in absurd (omega arith)
+  untyped_nameless (Ok x) after h e = cc
   untyped_nameless (Err f) after h e =
       let same : f ≡ catalogue_fault NoEntryFits = cc in
       ⊎_elim (λ k. absurd (not_twelve k.0 (sym k.2 ∙ same))) (λ k. k.0) h.0
@@ -145,20 +145,11 @@ module _ (es : List Entry) (minute : ℕ) (legs : List PlainLeg) (lent : Places)
         answered_clauses r lent (ap (λ (y : Result (ℕ × ℕ × ℕ) Fault). outcome y lent.type lent.seating) is ∙ sym (ap (told es t.scale lent) h))
 
     -- the search found a fit
-    module _ (fit : ℕ × Direction × ℕ) (kept : List Leg) (is : kept ≡ legs_of t) (searched : Searched es kept (Ok fit)) where
-      found : Searched es (legs_of t) (Ok fit)
-      found = subst (λ (l : List Leg). Searched es l (Ok fit)) is searched
-
-      pub place_told : fit.2 < length (seating_table (length (legs_of t)))
-      place_told =
-          let h = found.0 in
-          let e = table_length (length (legs_of t)) two_legs four_legs (seating_table (length (legs_of t))) refl in
-          omega arith
-
+    module _ (fit : Fit) (searched : Searched es (legs_of t) (Ok fit)) where
       pub found-clauses :
           (answer : ℕ × ℕ × ℕ) (after : Places) →
-          answer ≡ (fit.0, direction_number fit.1, t.scale) → after.type ≡ (numbered es fit.0).type → after.seating ≡ get_or (seating_table (length (legs_of t))) fit.2 [] →
+          answer ≡ (fit.entry, direction_number fit.direction, t.scale) → after.type ≡ (numbered es fit.entry).type → after.seating ≡ fit.seating →
           Clauses (Ok answer) after
       found-clauses answer after told-so type seating =
-          let padded-so = seating ∙ place_padded (length (legs_of t)) two_legs four_legs (seating_table (length (legs_of t))) refl fit.2 found.0 in
-          answered_clauses (Ok answer) after ((λ i. outcome (Ok (told-so i)) (type i) (padded-so i)) ∙ sym (ap (told es t.scale lent) found.1))
+          let padded-so = seating ∙ searched.2 in
+          answered_clauses (Ok answer) after ((λ i. outcome (Ok (told-so i)) (type i) (padded-so i)) ∙ sym (ap (told es t.scale lent) searched.1))

@@ -1,10 +1,10 @@
 -- The seatings are all the permutations, in rising order. Assumes nothing.
 use Rattle.std.proofs.Common.{◌≡◌, ℕ, zero, suc, ◌+◌, ◌<◌, ◌≤◌, Bool, true, false, not, ◌&&◌, List, [], ◌∷◌, ◌++◌, map, length, sym, refl, ap, ◌∙◌, subst, inl, inr, ⊎_elim, arith}
-use Rattle.std.specs.List.{flat_map, AllByRecursion}
+use Rattle.std.specs.List.{flat_map, AllByRecursion, list_all}
 use Rattle.std.proofs.ByRecursion.{All-weaker}
 use Rattle.std.proofs.lemmas.Bool.{and_parts, not-true, cases_eq}
 use Rattle.catalogue.specs.Seatings.{numbers, Pick, picks, orders, seatings, Permutation, Distinct, In, RisingOrder, Complete, before}
-use Rattle.catalogue.proofs.Checks.{every, all_every}
+use Rattle.catalogue.proofs.Checks.{all_every}
 use Rattle.catalogue.proofs.Seats.{by_legs, all_seated, Good}
 
 pub in_map : {X Y : Type 0} (f : X → Y) (x : X) (xs : List X) → In x xs → In (f x) (map f xs)
@@ -82,13 +82,13 @@ seatings_whole n s p =
 
 rises : List (List ℕ) → Bool
 rises [] = true
-rises (s ∷ ss) = every (λ z. before s z && not (before z s)) ss && rises ss
+rises (s ∷ ss) = list_all (λ z. before s z && not (before z s)) ss && rises ss
 
 rises_true : (ss : List (List ℕ)) → rises ss ≡ true → RisingOrder ss
 unfolding rises
 rises_true [] t = tt
 rises_true (s ∷ ss) t =
-    let h = and_parts (every (λ z. before s z && not (before z s)) ss) (rises ss) t in (
+    let h = and_parts (list_all (λ z. before s z && not (before z s)) ss) (rises ss) t in (
       all_every (λ z. before s z && not (before z s)) (λ z. (before s z ≡ true) × (before z s ≡ false)) (λ z u. let v = and_parts (before s z) (not (before z s)) u in (v.0, not-true (before z s) v.1)) ss h.0,
       rises_true ss h.1,
     )

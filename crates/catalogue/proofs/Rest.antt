@@ -1,12 +1,12 @@
 -- The candidates that the search has still to try, where it stands. Assumes nothing.
 use Rattle.std.proofs.Common.{◌≡◌, ℕ, suc, ◌+◌, ◌-◌, ◌<◌, ◌≤◌, Bool, true, false, List, [], ◌∷◌, ◌++◌, map, length, get_or, take, drop, Some, None, sym, refl, ap, ◌∙◌, append_assoc, add-one, arith}
-use Rattle.std.specs.List.{flat_map}
+use Rattle.std.specs.List.{find, flat_map}
 use Rattle.std.proofs.lemmas.List.{drop_more, drop_all}
 use Rattle.std.proofs.lemmas.Bool.{cond-true, cond-false}
 use Rattle.contracts.specs.declared.leg.Leg.{Leg}
 use Rattle.catalogue.specs.Entries.{Entry}
 use Rattle.catalogue.specs.Seatings.{numbers, seatings}
-use Rattle.catalogue.specs.Search.{Candidate, first, candidate, directions, of_direction, of_entry, fitting, first_fit}
+use Rattle.catalogue.specs.Search.{Candidate, candidate, directions, of_direction, of_entry, fitting, first_fit}
 use Rattle.catalogue.specs.declared.direction.Direction.{Direction}
 use Rattle.catalogue.specs.declared.direction.Direction.TheVariants.{Buy}
 
@@ -34,7 +34,7 @@ from_seating legs count n d i = map (candidate n (facing d)) (drop i (seatings l
 
 -- the search goes on with xs: what they give is the answer
 abbrev pub Goes : List Entry → List Leg → List Candidate → Type 0
-Goes es ticket xs = first (fitting es ticket) xs ≡ first_fit es ticket
+Goes es ticket xs = find (fitting es ticket) xs ≡ first_fit es ticket
 
 module _ (legs count : ℕ) where
   pub entry_begins : (n : ℕ) → n < count + 1 → from_direction legs count n 0 ≡ from_entry legs count n
@@ -69,7 +69,7 @@ module _ (es : List Entry) (ticket : List Leg) where
   starts = let e : length es + 1 - 1 ≡ length es = omega arith in rw e refl
 
   goes_to : (xs ys : List Candidate) → ys ≡ xs → Goes es ticket xs → Goes es ticket ys
-  goes_to xs ys e g = ap (first (fitting es ticket)) e ∙ g
+  goes_to xs ys e g = ap (find (fitting es ticket)) e ∙ g
 
   -- from one list of what is left to the next
   module _ (count n : ℕ) where

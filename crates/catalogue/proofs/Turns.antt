@@ -1,9 +1,10 @@
 -- Permutations one after another, and back. Assumes nothing.
 use Rattle.std.proofs.Common.{◌≡◌, ℕ, zero, suc, ◌-◌, ◌<◌, ◌≤◌, Bool, true, cond, ◌&&◌, eqb, List, [], ◌∷◌, map, length, get_or, sym, refl, ap, ◌∙◌, arith}
-use Rattle.std.specs.List.{AllByRecursion}
+use Rattle.std.specs.List.{AllByRecursion, list_all}
 use Rattle.std.proofs.lemmas.List.{get_or-map, length-map}
 use Rattle.std.proofs.ByRecursion.{All-get_or, All-weaker, All-map}
 use Rattle.std.proofs.lemmas.Bool.{and_parts}
+use Rattle.std.proofs.lemmas.Simd.{map-map}
 use Rattle.contracts.specs.declared.leg.Leg.{Leg}
 use Rattle.contracts.specs.declared.plain.Side.{Side}
 use Rattle.contracts.specs.declared.plain.Side.TheVariants.{Bought, Sold}
@@ -11,7 +12,7 @@ use Rattle.catalogue.specs.Rows.{no_leg, opposite, turned, faced, leg_of, row}
 use Rattle.catalogue.specs.Seatings.{numbers, seatings, Permutation, Distinct, Apart}
 use Rattle.catalogue.specs.declared.direction.Direction.{Direction}
 use Rattle.catalogue.specs.declared.direction.Direction.TheVariants.{Buy, Sell}
-use Rattle.catalogue.proofs.Checks.{every, all_every, same, same_true, permutes, permutes_true}
+use Rattle.catalogue.proofs.Checks.{all_every, same, same_true, permutes, permutes_true}
 use Rattle.catalogue.proofs.Seats.{by_legs}
 use Rattle.catalogue.proofs.Perms.{all_in, seatings_whole}
 
@@ -26,10 +27,6 @@ Known n k = (1 ≤ k) × (k ≤ n)
 map_same : {X Y : Type 0} (P : X → Type 0) (f g : X → Y) → ((x : X) → P x → f x ≡ g x) → (xs : List X) → AllByRecursion P xs → map f xs ≡ map g xs
 map_same P f g e [] a = refl
 map_same P f g e (x ∷ xs) a = let p = e x a.0 in let q = map_same P f g e xs a.1 in cc
-
-map_map : {X Y Z : Type 0} (f : Y → Z) (g : X → Y) (xs : List X) → map f (map g xs) ≡ map (λ x. f (g x)) xs
-map_map f g [] = refl
-map_map f g (x ∷ xs) = ap (λ l. f (g x) ∷ l) (map_map f g xs)
 
 apart_get_d : (x : ℕ) (xs : List ℕ) → Apart x xs → (i : ℕ) → i < length xs → x ≡ get_or xs i 0 → ⊥
 apart_get_d x xs a i h e = All-get_or (λ y. x ≡ y → ⊥) xs i 0 h a e
@@ -96,7 +93,7 @@ row_row t o s d f po ps =
     let lk : (1 ≤ k) × (k ≤ length t) = l in
     ap (faced d) (get_or-map (λ j. faced f (leg_of t j)) o (k - 1) 0 no_leg (omega arith)) ∙ faced_faced d f (leg_of t (get_or o (k - 1) 0)))
     s ps.legs
-    ∙ sym (map_map (λ j. faced (both_turns d f) (leg_of t j)) (λ k. get_or o (k - 1) 0) s)
+    ∙ sym (map-map (λ j. faced (both_turns d f) (leg_of t j)) (λ k. get_or o (k - 1) 0) s)
 
 pub row_length : (t : List Leg) (o : List ℕ) (f : Direction) → Permutation (length t) o → length (row f t o) ≡ length t
 row_length t o f po = length-map o (λ k. faced f (leg_of t k)) ∙ po.long
@@ -130,9 +127,9 @@ undone_true n o t =
     let h = and_parts (permutes n (back n o)) (same (then o (back n o)) (numbers 1 n)) t in
     record { permutes = permutes_true n (back n o) h.0; undoes = same_true (then o (back n o)) (numbers 1 n) h.1 }
 
-all_undone : (n : ℕ) → 2 ≤ n → n ≤ 4 → every (undone n) (seatings n) ≡ true
+all_undone : (n : ℕ) → 2 ≤ n → n ≤ 4 → list_all (undone n) (seatings n) ≡ true
 unfolding seatings undone back index
-all_undone = by_legs (λ n. every (undone n) (seatings n) ≡ true) refl refl refl
+all_undone = by_legs (λ n. list_all (undone n) (seatings n) ≡ true) refl refl refl
 
 pub back_of : (n : ℕ) (o : List ℕ) → 2 ≤ n → n ≤ 4 → Permutation n o → Back n o
 back_of n o low high po = all_in (Back n) o (seatings n) (all_every (undone n) (Back n) (undone_true n) (seatings n) (all_undone n low high)) (seatings_whole n o po)

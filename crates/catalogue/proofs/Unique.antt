@@ -27,8 +27,8 @@ month_of_plain m n e = same_month m n (ap (λ (p : PlainMonth). p.year) e) (ap (
 
 underlying_of_plain : (u v : Underlying) → plain_underlying u ≡ plain_underlying v → u ≡ v
 underlying_of_plain on.Spot on.Spot e = refl
-underlying_of_plain on.Spot (on.Future n) e = let z : ◌≡◌ {A = ℕ} 0 1 = cc in absurd (omega arith)
-underlying_of_plain (on.Future m) on.Spot e = let z : ◌≡◌ {A = ℕ} 0 1 = cc in absurd (omega arith)
+underlying_of_plain on.Spot (on.Future n) e = cc
+underlying_of_plain (on.Future m) on.Spot e = cc
 underlying_of_plain (on.Future m) (on.Future n) e = let f : plain_month m ≡ plain_month n = cc in ap on.Future (month_of_plain m n f)
 
 -- a contract's plain numbers are that contract's alone
@@ -37,8 +37,8 @@ same_plain (Future r m) (Future q n) e =
     let a : plain_root r ≡ plain_root q = cc in
     let b : plain_month m ≡ plain_month n = cc in
     λ i. Future (root_of_plain r q a i) (month_of_plain m n b i)
-same_plain (Future r m) (Option h q n t v) e = let z : ◌≡◌ {A = ℕ} 0 1 = cc in absurd (omega arith)
-same_plain (Option g r m s u) (Future q n) e = let z : ◌≡◌ {A = ℕ} 0 1 = cc in absurd (omega arith)
+same_plain (Future r m) (Option h q n t v) e = cc
+same_plain (Option g r m s u) (Future q n) e = cc
 same_plain (Option g r m s u) (Option h q n t v) e =
     let a : plain_root r ≡ plain_root q = cc in
     let b : plain_month m ≡ plain_month n = cc in

@@ -1,10 +1,9 @@
 -- The row that a seating makes of a ticket's legs, in a direction. Assumes nothing.
-use Rattle.std.specs.Prelude.{ℕ, ◌-◌, List, map, slice_index_or, refl}
-use Rattle.std.proofs.Common.{lit≤}
-use Rattle.contracts.specs.declared.contract.Contract.TheVariants.{Future}
+use Rattle.std.specs.Prelude.{ℕ, ◌-◌, List, map, slice_index_or}
 use Rattle.contracts.specs.declared.leg.Leg.{Leg}
 use Rattle.contracts.specs.declared.plain.Side.{Side}
 use Rattle.contracts.specs.declared.plain.Side.TheVariants.{Bought, Sold}
+use Rattle.tickets.specs.Filled.{blank}
 use Rattle.catalogue.specs.declared.direction.Direction.{Direction}
 use Rattle.catalogue.specs.declared.direction.Direction.TheVariants.{Buy, Sell}
 
@@ -28,12 +27,7 @@ direction_number Sell = 2
 
 -- what stands past the last leg; no seating names it
 abbrev pub no_leg : Leg
-no_leg =
-    record {
-      contract = Future (record { first = 65; second = 65; third = 65; range = (refl, refl, refl) }) (record { year = 2000; month = 1; range = (lit≤ tt, lit≤ tt, lit≤ tt, lit≤ tt) });
-      side = Bought;
-      ratio = 0;
-    }
+no_leg = blank
 
 -- legs are numbered from 1
 abbrev pub leg_of : List Leg → ℕ → Leg

@@ -1,6 +1,8 @@
 -- Seatings: each role gets one leg, and each leg one role. Assumes nothing.
 use Rattle.std.specs.Prelude.{◌≡◌, ℕ, zero, suc, ◌≤◌, Bool, true, false, cond, ◌&&◌, ◌||◌, ◌⊎◌, List, [], ◌∷◌, ◌++◌, map, length, take, ◌==◌, ◌≢◌, nat_le, nat_lt}
 use Rattle.std.specs.List.{flat_map, AllByRecursion}
+use Rattle.tickets.specs.Refused.{legs_of}
+use Rattle.tickets.specs.declared.ticket.Ticket.{Ticket}
 
 -- x is none of these
 abbrev pub Apart : ℕ → List ℕ → Type 0
@@ -68,3 +70,11 @@ pub record Complete (n : ℕ) : Type 0 where
   pub sound : (s : List ℕ) → In s (seatings n) → Permutation n s
   pub whole : (s : List ℕ) → Permutation n s → In s (seatings n)
   pub rising : RisingOrder (seatings n)
+
+-- the leg of each role of a ticket, as the code holds a seating
+abbrev pub unpadded : Ticket → List ℕ → List ℕ
+unpadded t places = take (length (legs_of t)) places
+
+-- they are a seating of the ticket's legs
+abbrev pub Seats : Ticket → List ℕ → Type 0
+Seats t places = Permutation (length (legs_of t)) (unpadded t places)

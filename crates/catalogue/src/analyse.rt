@@ -1,7 +1,7 @@
 // The analysis of a ticket over a catalogue: its type, and how its legs play the roles of the first entry that fits.
-ghost use Rattle.std.specs.Prelude.{◌≡◌, ◌<◌, [], length, Err, slice_index_or};
+ghost use Rattle.std.specs.Prelude.{◌≡◌, Err};
 ghost use Rattle.tickets.specs.Refusals.{ticket_fault};
-ghost use Rattle.tickets.specs.Refused.{Refused, Clear, TicketOf, legs_of};
+ghost use Rattle.tickets.specs.Refused.{Refused, Clear, TicketOf};
 ghost use Rattle.tickets.specs.declared.refusal.TicketRefusal.{TicketRefusal};
 ghost use Rattle.tickets.specs.declared.ticket.Ticket.{Ticket};
 ghost use Rattle.catalogue.specs.Analysis.{held, outcome, refused_with, analysis_of, Analysed, Nameless};
@@ -9,13 +9,10 @@ ghost use Rattle.catalogue.specs.Entries.{numbered};
 ghost use Rattle.catalogue.specs.Refusals.{catalogue_fault};
 ghost use Rattle.catalogue.specs.Rows.{direction_number};
 ghost use Rattle.catalogue.specs.Same.{SameName};
-ghost use Rattle.catalogue.specs.Seatings.{seating_table};
 ghost use Rattle.catalogue.specs.declared.refusal.CatalogueRefusal.TheVariants.{NoEntryFits};
 
 use crate::catalogue::Catalogue;
-use crate::direction::Direction;
-use crate::search::search;
-use crate::seating::seatings_of;
+use crate::search::{Fit, search};
 use crate::strategy::StrategyType;
 use contracts::plain::PlainLeg;
 use tickets::check::check;
@@ -26,19 +23,17 @@ use tickets::ticket::Ticket;
 fn tell<C: Catalogue>(
     catalogue: &C,
     ticket: &Ticket,
-    fit: (usize, Direction, usize),
+    fit: &Fit,
     strategy: &mut StrategyType,
     seating: &mut [u8; 4],
 ) -> (usize, u8, u32)
-    requires { fit.2 < length (seating_table (length (legs_of ticket.now))) }
-    ensures answer { result ≡ (fit.0, direction_number fit.1, ticket.now.scale) }
-    ensures named { strategy.new ≡ (numbered (C.entries catalogue.now) fit.0).type }
-    ensures seated { seating.new ≡ slice_index_or (seating_table (length (legs_of ticket.now))) fit.2 [] }
+    ensures answer { result ≡ (fit.now.entry, direction_number fit.now.direction, ticket.now.scale) }
+    ensures named { strategy.new ≡ (numbered (C.entries catalogue.now) fit.now.entry).type }
+    ensures seated { seating.new ≡ fit.now.seating }
 {
-    let (entry, direction, place) = fit;
-    *strategy = catalogue.type_of(entry);
-    *seating = seatings_of(ticket.legs().len())[place];
-    (entry, direction.number(), ticket.scale())
+    *strategy = catalogue.type_of(fit.entry);
+    *seating = fit.seating;
+    (fit.entry, fit.direction.number(), ticket.scale())
 }
 
 // The entry, the direction (1 or 2) and the scale; the type and the seating are left in the two places.
@@ -59,6 +54,6 @@ pub fn analyse<C: Catalogue>(
     ensures same_strategy { SameName (C.entries catalogue.now) minute legs.now result (held strategy.new seating.new) }
 {
     let ticket = check(minute, legs)?;
-    let fit = search(catalogue, ticket.legs())?;
-    Ok(tell(catalogue, &ticket, fit, strategy, seating))
+    let fit = search(catalogue, &ticket)?;
+    Ok(tell(catalogue, &ticket, &fit, strategy, seating))
 }

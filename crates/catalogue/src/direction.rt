@@ -1,7 +1,7 @@
 // The two directions in which an entry may fit: BUY takes the legs as they are, SELL takes each from the other side.
 ghost use Rattle.std.specs.Prelude.{◌≡◌};
 ghost use Rattle.catalogue.specs.Rows.{opposite as other_side, faced, direction_number};
-ghost use Rattle.catalogue.specs.Search.{directions as in_order};
+ghost use Rattle.catalogue.specs.Search.{directions};
 
 use contracts::leg::Leg;
 use contracts::plain::Side;
@@ -10,15 +10,6 @@ use contracts::plain::Side;
 pub enum Direction {
     Buy,
     Sell,
-}
-
-static DIRECTIONS: [Direction; 2] = [Direction::Buy, Direction::Sell];
-
-// In the order in which they are tried.
-pub(crate) fn directions() -> &'static [Direction]
-    ensures { result.now ≡ in_order }
-{
-    &DIRECTIONS
 }
 
 fn opposite(side: Side) -> Side
@@ -31,6 +22,13 @@ fn opposite(side: Side) -> Side
 }
 
 impl Direction {
+    // In the order in which they are tried.
+    pub(crate) fn both() -> [Direction; 2]
+        ensures { result ≡ directions }
+    {
+        [Direction::Buy, Direction::Sell]
+    }
+
     // BUY is 1, SELL is 2.
     pub fn number(self) -> u8
         ensures { result ≡ direction_number self }
@@ -48,9 +46,8 @@ impl Direction {
         match self {
             Direction::Buy => leg,
             Direction::Sell => Leg {
-                contract: leg.contract,
                 side: opposite(leg.side),
-                ratio: leg.ratio,
+                ..leg
             },
         }
     }

@@ -16,22 +16,15 @@ impl From<CatalogueRefusal> for Fault {
     ghost from_gives = { λ e f. f ≡ catalogue_fault e };
 
     fn from(e: CatalogueRefusal) -> Fault {
-        match e {
-            CatalogueRefusal::OutOfForm { record } => Fault {
-                number: 2,
-                layer: Layer::Catalogue,
-                place: record,
-            },
-            CatalogueRefusal::TooManyRecords => Fault {
-                number: 3,
-                layer: Layer::Catalogue,
-                place: 0,
-            },
-            CatalogueRefusal::NoEntryFits => Fault {
-                number: 12,
-                layer: Layer::Catalogue,
-                place: 0,
-            },
+        let (number, place) = match e {
+            CatalogueRefusal::OutOfForm { record } => (2, record),
+            CatalogueRefusal::TooManyRecords => (3, 0),
+            CatalogueRefusal::NoEntryFits => (12, 0),
+        };
+        Fault {
+            number,
+            layer: Layer::Catalogue,
+            place,
         }
     }
 }

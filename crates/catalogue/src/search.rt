@@ -1,52 +1,56 @@
 // The search for the first entry that fits: by entry, then BUY before SELL, then seatings in rising order.
-ghost use Rattle.std.specs.Prelude.{◌≡◌, ◌≤◌, length, take};
-ghost use Rattle.std.specs.List.{AllByRecursion};
+ghost use Rattle.std.specs.Prelude.{◌≡◌};
+ghost use Rattle.tickets.specs.Refused.{legs_of};
 ghost use Rattle.catalogue.specs.Search.{candidate, fitting, Searched};
+ghost use Rattle.catalogue.specs.Seatings.{unpadded, Seats};
 
 use crate::catalogue::Catalogue;
-use crate::direction::{Direction, directions};
+use crate::direction::Direction;
 use crate::refusal::CatalogueRefusal;
 use crate::seating::{seated, seatings_of};
-use contracts::leg::Leg;
+use tickets::ticket::Ticket;
 
-// Whether an entry fits the legs in a direction, seated so.
+// How an entry fits a ticket: in a direction, seated so.
+#[derive(Clone, Copy)]
+pub(crate) struct Fit {
+    pub(crate) entry: usize,
+    pub(crate) direction: Direction,
+    pub(crate) seating: [u8; 4],
+}
+
+// Whether an entry fits the ticket in a direction, seated so.
 fn fits_so<C: Catalogue>(
     catalogue: &C,
-    number: usize,
-    legs: &[Leg],
+    entry: usize,
+    ticket: &Ticket,
     direction: Direction,
     seating: &[u8; 4],
 ) -> bool
-    requires some { 1 ≤ length legs.now }
-    requires few { length legs.now ≤ 4 }
-    requires known { AllByRecursion (λ k. (1 ≤ k) × (k ≤ length legs.now)) (take (length legs.now) seating.now) }
-    ensures { result ≡ fitting (C.entries catalogue.now) legs.now (candidate number direction (take (length legs.now) seating.now)) }
+    requires { Seats ticket.now seating.now }
+    ensures { result ≡ fitting (C.entries catalogue.now) (legs_of ticket.now) (candidate entry direction (unpadded ticket.now seating.now)) }
 {
-    let row = seated(legs, seating, direction);
-    catalogue.fits(number, &row[0..legs.len()])
+    let row = seated(ticket, direction, seating);
+    catalogue.fits(entry, row.as_slice())
 }
 
-// The entry, the direction and the place of the seating in its table.
-pub(crate) fn search<C: Catalogue>(
-    catalogue: &C,
-    legs: &[Leg],
-) -> Result<(usize, Direction, usize), CatalogueRefusal>
-    requires two { 2 ≤ length legs.now }
-    requires four { length legs.now ≤ 4 }
-    ensures { Searched (C.entries catalogue.now) legs.now result }
+pub(crate) fn search<C: Catalogue>(catalogue: &C, ticket: &Ticket) -> Result<Fit, CatalogueRefusal>
+    ensures { Searched (C.entries catalogue.now) (legs_of ticket.now) result }
 {
-    let table = seatings_of(legs.len());
-    let count = catalogue.count();
+    let roles = ticket.legs().len();
     let found = 'search: {
-        for number in 1..count + 1 {
+        for entry in 1..=catalogue.count() {
             // No seating fits an entry of another number of roles.
-            if catalogue.role_count(number) != legs.len() {
+            if catalogue.role_count(entry) != roles {
                 continue;
             }
-            for direction in directions() {
-                for (place, seating) in table.iter().enumerate() {
-                    if fits_so(catalogue, number, legs, *direction, seating) {
-                        break 'search Some((number, *direction, place));
+            for direction in Direction::both() {
+                for seating in seatings_of(roles) {
+                    if fits_so(catalogue, entry, ticket, direction, seating) {
+                        break 'search Some(Fit {
+                            entry,
+                            direction,
+                            seating: *seating,
+                        });
                     }
                 }
             }

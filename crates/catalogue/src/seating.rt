@@ -1,13 +1,12 @@
 // Seatings: which leg plays which role, all of them in rising order.
-ghost use Rattle.std.specs.Prelude.{◌≡◌, ◌≤◌, length, take};
-ghost use Rattle.std.specs.List.{AllByRecursion};
+ghost use Rattle.std.specs.Prelude.{◌≡◌, ◌≤◌};
+ghost use Rattle.tickets.specs.Refused.{legs_of};
 ghost use Rattle.catalogue.specs.Rows.{row as row_of};
-ghost use Rattle.catalogue.specs.Seatings.{seating_table, Complete};
+ghost use Rattle.catalogue.specs.Seatings.{seating_table, Complete, unpadded, Seats};
 
 use crate::direction::Direction;
-use contracts::leg::Leg;
-
-static NONE: [[u8; 4]; 0] = [];
+use tickets::row::Row;
+use tickets::ticket::Ticket;
 
 static PAIRS: [[u8; 4]; 2] = [[1, 2, 0, 0], [2, 1, 0, 0]];
 
@@ -48,6 +47,7 @@ static FOURS: [[u8; 4]; 24] = [
 ];
 
 // The seatings of 2 to 4 legs, each with 0 past its roles; of another number of legs there are none.
+#[tactic(auto, using(crate::proofs::Perms::complete), unfolding(crate::specs::Seatings::seatings))]
 pub fn seatings_of(legs: usize) -> &'static [[u8; 4]]
     ensures table { result.now ≡ seating_table legs }
     ensures whole { 2 ≤ legs → legs ≤ 4 → Complete legs }
@@ -56,20 +56,19 @@ pub fn seatings_of(legs: usize) -> &'static [[u8; 4]]
         2 => &PAIRS,
         3 => &TRIPLES,
         4 => &FOURS,
-        _ => &NONE,
+        _ => &[],
     }
 }
 
-// The legs in the order of the roles, each as the direction has it; what stands past the roles does not matter.
-pub(crate) fn seated(legs: &[Leg], seating: &[u8; 4], direction: Direction) -> [Leg; 4]
-    requires some { 1 ≤ length legs.now }
-    requires few { length legs.now ≤ 4 }
-    requires known { AllByRecursion (λ k. (1 ≤ k) × (k ≤ length legs.now)) (take (length legs.now) seating.now) }
-    ensures { take (length legs.now) result ≡ row_of direction legs.now (take (length legs.now) seating.now) }
+// A ticket's legs in the order of the roles, each as the direction has it.
+pub(crate) fn seated(ticket: &Ticket, direction: Direction, seating: &[u8; 4]) -> Row
+    requires { Seats ticket.now seating.now }
+    ensures { result ≡ row_of direction (legs_of ticket.now) (unpadded ticket.now seating.now) }
 {
-    let mut row = [legs[0]; 4];
-    for role in 0..legs.len() {
-        row[role] = direction.face(legs[seating[role] as usize - 1]);
+    let legs = ticket.legs();
+    let mut row = Row::new();
+    for number in &seating[..legs.len()] {
+        row.keep(direction.face(legs[*number as usize - 1]));
     }
     row
 }

@@ -2,5 +2,9 @@ pub mod Ranges
 pub mod Ladder
 pub mod Plain
 pub mod Rungs
-pub mod Lawful
+pub mod Parts
 pub mod Same
+pub mod Alike
+pub mod Letters
+pub mod Lettered
+pub mod Writing

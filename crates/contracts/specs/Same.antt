@@ -6,7 +6,8 @@ use Rattle.keys.specs.Ranges.{month_index}
 use Rattle.keys.specs.declared.month.Month.{Month}
 use Rattle.keys.specs.declared.strike.Strike.{Strike}
 use Rattle.keys.specs.Same.{same_strike, same_index}
-use Rattle.contracts.specs.Ladder.{root_of, month_of, kind_rank, strike_rank, underlying_rank}
+use Rattle.contracts.specs.Ladder.{kind_rank, strike_rank, underlying_rank}
+use Rattle.contracts.specs.Parts.{root_of, month_of}
 use Rattle.contracts.specs.Ranges.{RootRange}
 use Rattle.contracts.specs.declared.contract.Right.{Right}
 use Rattle.contracts.specs.declared.contract.Right.TheVariants.{Call, Put}

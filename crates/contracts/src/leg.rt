@@ -2,7 +2,7 @@
 use crate::contract::Contract;
 use crate::plain::Side;
 
-#[derive(Clone, Copy)]
+#[derive(Clone, Copy, PartialEq, Eq)]
 pub struct Leg {
     pub contract: Contract,
     pub side: Side,

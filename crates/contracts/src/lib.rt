@@ -4,6 +4,8 @@
 pub mod contract;
 pub mod ladder;
 pub mod leg;
+pub mod letter;
 pub mod plain;
 pub mod read;
 pub mod root;
+pub mod text;

@@ -1,5 +1,5 @@
 // From plain numbers to a contract in range.
-ghost use Rattle.std.specs.Prelude.{◌≡◌, MatchOption};
+ghost use Rattle.std.specs.Prelude.{◌≡◌, MatchResult};
 ghost use Rattle.contracts.specs.Plain.{plain_root, plain_month, plain_underlying, plain_contract, RootInRange, MonthInRange, UnderlyingInRange, ContractInRange};
 
 use crate::contract::{Contract, Underlying};
@@ -8,50 +8,69 @@ use crate::root::Root;
 use keys::month::Month;
 use keys::strike::Strike;
 
-fn read_root(plain: PlainRoot) -> Option<Root>
-    ensures { MatchOption result (RootInRange plain → ⊥) (λ x. plain_root x ≡ plain) }
-{
-    Root::new(plain.first, plain.second, plain.third)
-}
+// One of the numbers is out of range.
+#[derive(Clone, Copy, PartialEq, Eq)]
+pub struct OutOfRange;
 
-fn read_month(plain: PlainMonth) -> Option<Month>
-    ensures { MatchOption result (MonthInRange plain → ⊥) (λ x. plain_month x ≡ plain) }
-{
-    Month::new(plain.year, plain.month)
-}
+impl TryFrom<PlainRoot> for Root {
+    type Error = OutOfRange;
 
-fn read_underlying(plain: PlainUnderlying) -> Option<Underlying>
-    ensures { MatchOption result (UnderlyingInRange plain → ⊥) (λ x. plain_underlying x ≡ plain) }
-{
-    match plain {
-        PlainUnderlying::Spot => Some(Underlying::Spot),
-        PlainUnderlying::Future(month) => Some(Underlying::Future(read_month(month)?)),
+    ghost try_from_gives = { λ plain read. MatchResult read (λ x. plain_root x ≡ plain) (λ _. RootInRange plain → ⊥) };
+
+    fn try_from(plain: PlainRoot) -> Result<Root, OutOfRange> {
+        Root::new(plain.first, plain.second, plain.third).ok_or(OutOfRange)
     }
 }
 
-// The contract of these numbers, or none where one of them is out of range.
-pub fn read_contract(plain: &PlainContract) -> Option<Contract>
-    ensures { MatchOption result (ContractInRange plain.now → ⊥) (λ x. plain_contract x ≡ plain.now) }
-{
-    match *plain {
-        PlainContract::Future { root, month } => {
-            Some(Contract::Future {
-                root: read_root(root)?,
-                month: read_month(month)?,
-            })
+impl TryFrom<PlainMonth> for Month {
+    type Error = OutOfRange;
+
+    ghost try_from_gives = { λ plain read. MatchResult read (λ x. plain_month x ≡ plain) (λ _. MonthInRange plain → ⊥) };
+
+    fn try_from(plain: PlainMonth) -> Result<Month, OutOfRange> {
+        Month::new(plain.year, plain.month).ok_or(OutOfRange)
+    }
+}
+
+impl TryFrom<PlainUnderlying> for Underlying {
+    type Error = OutOfRange;
+
+    ghost try_from_gives = { λ plain read. MatchResult read (λ x. plain_underlying x ≡ plain) (λ _. UnderlyingInRange plain → ⊥) };
+
+    fn try_from(plain: PlainUnderlying) -> Result<Underlying, OutOfRange> {
+        match plain {
+            PlainUnderlying::Spot => Ok(Underlying::Spot),
+            PlainUnderlying::Future(month) => Ok(Underlying::Future(month.try_into()?)),
         }
-        PlainContract::Option {
-            right,
-            root,
-            month,
-            strike,
-            underlying,
-        } => Some(Contract::Option {
-            right,
-            root: read_root(root)?,
-            month: read_month(month)?,
-            strike: Strike::new(strike)?,
-            underlying: read_underlying(underlying)?,
-        }),
+    }
+}
+
+impl TryFrom<PlainContract> for Contract {
+    type Error = OutOfRange;
+
+    ghost try_from_gives = { λ plain read. MatchResult read (λ x. plain_contract x ≡ plain) (λ _. ContractInRange plain → ⊥) };
+
+    fn try_from(plain: PlainContract) -> Result<Contract, OutOfRange> {
+        match plain {
+            PlainContract::Future { root, month } => {
+                Ok(Contract::Future {
+                    root: root.try_into()?,
+                    month: month.try_into()?,
+                })
+            }
+            PlainContract::Option {
+                right,
+                root,
+                month,
+                strike,
+                underlying,
+            } => Ok(Contract::Option {
+                right,
+                root: root.try_into()?,
+                month: month.try_into()?,
+                strike: Strike::new(strike).ok_or(OutOfRange)?,
+                underlying: underlying.try_into()?,
+            }),
+        }
     }
 }

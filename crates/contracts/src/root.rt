@@ -2,7 +2,7 @@
 ghost use Rattle.std.specs.Prelude.{◌≡◌, MatchOption};
 ghost use Rattle.contracts.specs.Ranges.{RootRange, code_character};
 
-#[derive(Clone, Copy)]
+#[derive(Clone, Copy, PartialEq, Eq, PartialOrd, Ord)]
 pub struct Root {
     pub first: u8,
     pub second: u8,
@@ -14,7 +14,7 @@ pub struct Root {
 pub fn is_code_character(c: u8) -> bool
     ensures { result ≡ code_character c }
 {
-    (c >= b'A' && c <= b'Z') || (c >= b'0' && c <= b'9')
+    c.is_ascii_uppercase() || c.is_ascii_digit()
 }
 
 impl Root {

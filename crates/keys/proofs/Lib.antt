@@ -1,1 +1,2 @@
 pub mod Stepwise
+pub mod Digits

@@ -1,20 +1,19 @@
 -- From each key and the next to any two keys. Assumes nothing.
-use Rattle.std.proofs.Common.{◌≡◌, ℕ, zero, suc, ◌+◌, ◌-◌, ◌<◌, ◌≤◌, List, length, get_or, ℤ, pos, ◌+ℤ◌, ◌*ℤ◌, sym, refl, ◌∙◌, subst, ⊎_elim, add-one, arith}
-use Rattle.std.proofs.lemmas.List.{get_or_read}
+use Rattle.std.proofs.Common.{◌≡◌, ℕ, zero, suc, ◌+◌, ◌<◌, ◌≤◌, List, length, get_or, ℤ, pos, ◌+ℤ◌, ◌*ℤ◌, sym, refl, ◌∙◌, subst, ⊎_elim, add-one, arith}
 use Rattle.std.proofs.lemmas.Int.{ints}
 use Rattle.std.proofs.lemmas.Bool.{cases_lt}
 use Rattle.keys.specs.Rows.{Rising, Ascending, Even}
-use Rattle.keys.specs.declared.key.Order.{Order}
-use Rattle.keys.specs.declared.key.Order.TheVariants.{Before}
+use Rattle.std.specs.declared.cmp.Ordering.{Ordering}
+use Rattle.std.specs.declared.cmp.Ordering.TheVariants.{Less}
 
-module _ {K : Type 0} (order : K → K → Order) (transitive : (x y z : K) → order x y ≡ Before → order y z ≡ Before → order x z ≡ Before) where
-  climbs : (row : List K) → Rising order row → (j : ℕ) → j < length row → (i : ℕ) (d : K) → i < j → order (get_or row i d) (get_or row j d) ≡ Before
+module _ {K : Type 0} (order : K → K → Ordering) (transitive : (x y z : K) → order x y ≡ Less → order y z ≡ Less → order x z ≡ Less) where
+  climbs : (row : List K) → Rising order row → (j : ℕ) → j < length row → (i : ℕ) (d : K) → i < j → order (get_or row i d) (get_or row j d) ≡ Less
   climbs row h zero p i d q = absurd (omega arith)
   climbs row h (suc j) p i d q =
-      let last : order (get_or row j d) (get_or row (suc j) d) ≡ Before = rw add-one at (h j d (omega arith)) in
+      let last : order (get_or row j d) (get_or row (suc j) d) ≡ Less = rw add-one at (h j d (omega arith)) in
       ⊎_elim
       (λ (l : i < j). transitive _ _ _ (climbs row h j (omega arith) i d l) last)
-      (λ (l : j ≤ i). let e : i ≡ j = omega arith in subst (λ (k : ℕ). order (get_or row k d) (get_or row (suc j) d) ≡ Before) (sym e) last)
+      (λ (l : j ≤ i). let e : i ≡ j = omega arith in subst (λ (k : ℕ). order (get_or row k d) (get_or row (suc j) d) ≡ Less) (sym e) last)
       (cases_lt i j)
 
   pub ascends : (row : List K) → Rising order row → Ascending order row
@@ -45,16 +44,7 @@ module _ {K : Type 0} (gap : K → K → ℤ) (adds : (x y z : K) → gap x z �
   pub evens : (row : List K) → Halved gap row (length row) → Even gap row
   evens row h i j d p q = first_step row h i d p ∙ sym (first_step row h j d q)
 
-  -- three keys as they are read at i
-  pub even_here : (row : List K) (i : ℕ) (x y z : K) → 2 ≤ i → i < length row → x ≡ get_or row (i - 2) x → y ≡ get_or row (i - 1) y → z ≡ get_or row i z → Even gap row → gap x z ≡ pos 2 *ℤ gap x y
-  even_here row i x y z low high p q r even =
-      let one : i - 2 + 1 ≡ i - 1 = omega arith in
-      let two : i - 1 + 1 ≡ i = omega arith in
-      let q' : get_or row (i - 1) x ≡ y = sym (get_or_read row (i - 1) y (omega arith) q x) in
-      let r' : get_or row i x ≡ z = sym (get_or_read row i z high r x) in
-      let e = even (i - 2) (i - 1) x (omega arith) (omega arith) in
-      let f : gap (get_or row (i - 2) x) (get_or row (i - 1) x) ≡ gap (get_or row (i - 1) x) (get_or row i x) =
-      subst (λ (k : ℕ). gap (get_or row (i - 2) x) (get_or row (i - 1) x) ≡ gap (get_or row (i - 1) x) (get_or row k x)) two
-      (subst (λ (k : ℕ). gap (get_or row (i - 2) x) (get_or row k x) ≡ gap (get_or row (i - 1) x) (get_or row (i - 1 + 1) x)) one e) in
-      let g : gap x y ≡ gap y z = cc in
-      half x y z g
+  pub halves : (row : List K) → Even gap row → Halved gap row (length row)
+  halves row even i d p =
+      let one : i + 1 + 1 ≡ i + 2 = omega arith in
+      half _ _ _ (subst (λ (k : ℕ). gap (get_or row i d) (get_or row (i + 1) d) ≡ gap (get_or row (i + 1) d) (get_or row k d)) one (even i (i + 1) d (omega arith) (omega arith)))

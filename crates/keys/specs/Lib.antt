@@ -1,4 +1,4 @@
-pub mod Orders
 pub mod Ranges
 pub mod Rows
 pub mod Same
+pub mod Writing

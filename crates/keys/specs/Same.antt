@@ -1,10 +1,11 @@
 -- Two keys with the same numbers are the same: a range that holds adds nothing. Assumes nothing.
-use Rattle.std.proofs.Common.{◌≡◌, ℕ, pos, ◌-ℤ◌, refl, ap, subst, lit≤, arith}
+use Rattle.std.proofs.Common.{◌≡◌, ℕ, pos, ◌-ℤ◌, ◌<ℤ◌, refl, sym, ap, ◌∙◌, subst, lit≤, arith}
+use Rattle.std.proofs.lemmas.Int.{ints}
 use Rattle.std.proofs.lemmas.Bool.Decides.{nat_tests}
 use native.Mathlib.Bridge.{le_prop}
-use Rattle.keys.specs.Orders.{by_number}
 use Rattle.keys.specs.Ranges.{StrikeRange, MonthRange, month_index}
-use Rattle.keys.specs.declared.key.Order.TheVariants.{Same}
+use Rattle.std.specs.Ordering.{nat_cmp, ordering_then}
+use Rattle.std.specs.declared.cmp.Ordering.TheVariants.{Equal, Less}
 use Rattle.keys.specs.declared.strike.Strike.{Strike}
 use Rattle.keys.specs.declared.month.Month.{Month}
 
@@ -34,15 +35,24 @@ pub same_index : (x y : Month) → month_index x.year x.month ≡ month_index y.
 same_index x y e = let p = x.range in let q = y.range in same_month x y (omega arith) (omega arith)
 
 -- strikes of one number are one strike
-pub strikes_same : (x y : Strike) → by_number x.hundredths y.hundredths ≡ Same → x ≡ y
+pub strikes_same : (x y : Strike) → nat_cmp x.hundredths y.hundredths ≡ Equal → x ≡ y
 strikes_same x y e = same_strike x y (grind (arith, nat_tests))
 
 pub strikes_reached : (x : Strike) × (y : Strike) × (pos y.hundredths -ℤ pos x.hundredths ≡ pos 99999998)
 strikes_reached = (strike 1 (lit≤ tt, lit≤ tt), strike 99999999 (lit≤ tt, lit≤ tt), refl)
 
--- months of one index are one month
-pub months_same : (x y : Month) → by_number (month_index x.year x.month) (month_index y.year y.month) ≡ Same → x ≡ y
-months_same x y e = same_index x y (grind (arith, nat_tests))
+-- by year and then by month is by index
+pub by_index : (x y : Month) → ordering_then (nat_cmp x.year y.year) (nat_cmp x.month y.month) ≡ nat_cmp (month_index x.year x.month) (month_index y.year y.month)
+by_index x y = let p = x.range in let q = y.range in grind (arith, nat_tests)
+
+pub months_same : (x y : Month) → ordering_then (nat_cmp x.year y.year) (nat_cmp x.month y.month) ≡ Equal → x ≡ y
+months_same x y e = let f = sym (by_index x y) ∙ e in same_index x y (grind (arith, nat_tests))
 
 pub months_reached : (x : Month) × (y : Month) × (pos (month_index y.year y.month) -ℤ pos (month_index x.year x.month) ≡ pos 1199)
 months_reached = (made_month 2000 1 (lit≤ tt, lit≤ tt, lit≤ tt, lit≤ tt), made_month 2099 12 (lit≤ tt, lit≤ tt, lit≤ tt, lit≤ tt), refl)
+
+pub months_ahead : (x y : Month) → ordering_then (nat_cmp x.year y.year) (nat_cmp x.month y.month) ≡ Less → pos 0 <ℤ (pos (month_index y.year y.month) -ℤ pos (month_index x.year x.month))
+months_ahead x y e = let f = sym (by_index x y) ∙ e in grind (arith, ints, nat_tests)
+
+pub months_behind : (x y : Month) → pos 0 <ℤ (pos (month_index y.year y.month) -ℤ pos (month_index x.year x.month)) → ordering_then (nat_cmp x.year y.year) (nat_cmp x.month y.month) ≡ Less
+months_behind x y h = by_index x y ∙ grind (arith, ints, nat_tests)

@@ -1,13 +1,13 @@
 // A contract month, which counts by its index: the months since January 2000.
 ghost use Rattle.std.specs.Prelude.{◌≡◌, pos, ◌-ℤ◌, MatchOption};
-ghost use Rattle.keys.specs.Orders.{by_number};
 ghost use Rattle.keys.specs.Ranges.{MonthRange, month_index};
 ghost use Rattle.std.proofs.Common.{rules, arith};
 ghost use Rattle.std.proofs.lemmas.Int.{ints};
 
-use crate::key::{Key, Order, SpacedKey, by_number};
+use crate::key::{Key, SpacedKey};
+use std::fmt;
 
-#[derive(Clone, Copy)]
+#[derive(Clone, Copy, PartialEq, Eq, PartialOrd, Ord)]
 pub struct Month {
     pub year: u16,
     pub month: u8,
@@ -19,13 +19,14 @@ impl Month {
     pub fn new(year: u32, month: u32) -> Option<Month>
         ensures { MatchOption result (MonthRange year month → ⊥) (λ m. (m.year ≡ year) × (m.month ≡ month)) }
     {
-        if year < 2000 || year > 2099 || month < 1 || month > 12 {
-            return None;
+        if (2000..=2099).contains(&year) && (1..=12).contains(&month) {
+            Some(Month {
+                year: year as u16,
+                month: month as u8,
+            })
+        } else {
+            None
         }
-        Some(Month {
-            year: year as u16,
-            month: month as u8,
-        })
     }
 
     pub fn index(&self) -> u32
@@ -35,36 +36,38 @@ impl Month {
     }
 }
 
-impl Key for Month {
-    ghost use Rattle.keys.specs.Same.{months_same};
+// The year, `-`, and the month by two digits.
+impl fmt::Display for Month {
+    ghost use Rattle.std.specs.Prelude.{Some};
+    ghost use Rattle.keys.specs.Writing.{month_text};
 
-    ghost order = { λ x y. by_number (month_index x.year x.month) (month_index y.year y.month) };
+    ghost output = { λ m. Some (month_text m) };
 
-    ghost same = { months_same };
-
-    ghost itself = { Prim.search rules };
-
-    ghost turned = { Prim.search rules };
-
-    ghost transitive = { Prim.search rules };
-
-    fn compare(&self, other: &Month) -> Order {
-        by_number(self.index(), other.index())
+    fn fmt<W: fmt::Write>(&self, f: &mut fmt::Formatter<W>) -> fmt::Result {
+        let year = self.year;
+        let month = self.month;
+        write!(f, "{year}-{month:02}")
     }
 }
 
+impl Key for Month {
+    ghost use Rattle.keys.specs.Same.{months_same};
+
+    ghost same = { months_same };
+}
+
 impl SpacedKey for Month {
-    ghost use Rattle.keys.specs.Same.{months_reached};
+    ghost use Rattle.keys.specs.Same.{months_reached, months_ahead, months_behind};
 
     const GREATEST: i32 = 1_199;
 
+    ghost GREATEST = { pos 1199 };
+
     ghost gap = { λ x y. pos (month_index y.year y.month) -ℤ pos (month_index x.year x.month) };
 
-    ghost greatest = { 1199 };
+    ghost ahead = { months_ahead };
 
-    ghost ahead = { Prim.search rules };
-
-    ghost behind = { Prim.search rules };
+    ghost behind = { months_behind };
 
     ghost adds = { λ x y z. omega (arith, ints) };
 
@@ -78,9 +81,5 @@ impl SpacedKey for Month {
 
     fn distance(&self, other: &Month) -> i32 {
         other.index() as i32 - self.index() as i32
-    }
-
-    fn greatest_distance() -> i32 {
-        Self::GREATEST
     }
 }

@@ -1,12 +1,12 @@
 // A strike, in hundredths.
 ghost use Rattle.std.specs.Prelude.{◌≡◌, pos, ◌-ℤ◌, MatchOption};
-ghost use Rattle.keys.specs.Orders.{by_number};
 ghost use Rattle.keys.specs.Ranges.{StrikeRange};
 ghost use Rattle.std.proofs.Common.{rules};
 
-use crate::key::{Key, Order, SpacedKey, by_number};
+use crate::key::{Key, SpacedKey};
+use std::fmt;
 
-#[derive(Clone, Copy)]
+#[derive(Clone, Copy, PartialEq, Eq, PartialOrd, Ord)]
 pub struct Strike {
     pub hundredths: u32,
     ghost range: { StrikeRange hundredths },
@@ -17,29 +17,30 @@ impl Strike {
     pub fn new(hundredths: u32) -> Option<Strike>
         ensures { MatchOption result (StrikeRange hundredths → ⊥) (λ s. s.hundredths ≡ hundredths) }
     {
-        if hundredths < 1 || hundredths > 99_999_999 {
-            return None;
+        if (1..=99_999_999).contains(&hundredths) {
+            Some(Strike { hundredths })
+        } else {
+            None
         }
-        Some(Strike { hundredths })
+    }
+}
+
+impl fmt::Display for Strike {
+    ghost use Rattle.std.specs.Prelude.{Some};
+    ghost use Rattle.keys.specs.Writing.{strike_text};
+
+    ghost output = { λ s. Some (strike_text s) };
+
+    fn fmt<W: fmt::Write>(&self, f: &mut fmt::Formatter<W>) -> fmt::Result {
+        let hundredths = self.hundredths;
+        write!(f, "{hundredths}")
     }
 }
 
 impl Key for Strike {
     ghost use Rattle.keys.specs.Same.{strikes_same};
 
-    ghost order = { λ x y. by_number x.hundredths y.hundredths };
-
     ghost same = { strikes_same };
-
-    ghost itself = { Prim.search rules };
-
-    ghost turned = { Prim.search rules };
-
-    ghost transitive = { Prim.search rules };
-
-    fn compare(&self, other: &Strike) -> Order {
-        by_number(self.hundredths, other.hundredths)
-    }
 }
 
 impl SpacedKey for Strike {
@@ -47,9 +48,9 @@ impl SpacedKey for Strike {
 
     const GREATEST: i32 = 99_999_998;
 
-    ghost gap = { λ x y. pos y.hundredths -ℤ pos x.hundredths };
+    ghost GREATEST = { pos 99999998 };
 
-    ghost greatest = { 99999998 };
+    ghost gap = { λ x y. pos y.hundredths -ℤ pos x.hundredths };
 
     ghost ahead = { Prim.search rules };
 
@@ -67,9 +68,5 @@ impl SpacedKey for Strike {
 
     fn distance(&self, other: &Strike) -> i32 {
         other.hundredths as i32 - self.hundredths as i32
-    }
-
-    fn greatest_distance() -> i32 {
-        Self::GREATEST
     }
 }

@@ -1,5 +1,5 @@
 -- What is written of a leg spells it. Assumes nothing.
-use Rattle.std.proofs.Common.{◌≡◌, ℕ, ◌/◌, ◌%◌, ◌^◌, ◌<◌, true, List, [], Ok, decimal, Result, sym, refl, ◌∙◌, subst, inl, append_assoc, append-nil, arith, rules}
+use Rattle.std.proofs.Common.{◌≡◌, ℕ, ◌/◌, ◌%◌, ◌^◌, ◌<◌, true, List, [], ◌++◌, codes, Ok, decimal, Result, sym, refl, ◌∙◌, subst, inl, append_assoc, append-nil, arith, rules}
 use Rattle.std.proofs.lemmas.Str.Parse.{IsNumeralModel, numerals_by_fold}
 use Rattle.std.proofs.lemmas.Fmt.{decimal_nonempty, decimal_digit, digits_decimal, digits_value-decimal}
 use Rattle.std.proofs.lemmas.Bool.Decides.{nat_tests}
@@ -16,7 +16,10 @@ use Rattle.contracts.specs.declared.plain.PlainLeg.{PlainLeg}
 use Rattle.contracts.specs.declared.leg.Leg.{Leg}
 use Rattle.notation.specs.LegReading.{read_leg}
 use Rattle.notation.specs.Spelling.{Digits, number_after, Number, MonthSpelled, RootCharacter, RootSpelled, UnderlyingSpelled, ContractSpelled, Spells}
-use Rattle.notation.specs.Writing.{root_text, two_digits, month_text, underlying_text, contract_text, leg_text, handed_back}
+use Rattle.keys.specs.Writing.{two_digits, month_text}
+use Rattle.contracts.specs.Letters.{right_text}
+use Rattle.contracts.specs.Writing.{root_text, underlying_text, contract_text, leg_text}
+use Rattle.notation.specs.Writing.{handed_back}
 use Rattle.notation.specs.declared.part.LegPart.{LegPart}
 use Rattle.notation.proofs.Legs.{spelled_from_read, read_from_spelled}
 
@@ -57,11 +60,14 @@ underlying_written : (u : Underlying) → UnderlyingSpelled (plain_underlying u)
 underlying_written on.Spot = refl
 underlying_written (on.Future month) = (month_text month, month_written month, refl)
 
+regrouped : (a c k m s u : List ℕ) → a ++ (c ++ (k ++ (c ++ (m ++ (c ++ (s ++ u)))))) ≡ a ++ c ++ k ++ c ++ m ++ c ++ s ++ u
+regrouped a c k m s u = simp append_assoc
+
 contract_written : (k : Contract) → ContractSpelled (plain_contract k) (contract_text k)
 contract_written (contract.Future root month) = (root_text root, month_text month, root_written root, month_written month, refl)
 contract_written (contract.Option right root month strike underlying) =
     let range = strike.range in
-    (root_text root, month_text month, decimal strike.hundredths, underlying_text underlying, root_written root, month_written month, number_written strike.hundredths (omega arith), underlying_written underlying, refl)
+    (root_text root, month_text month, decimal strike.hundredths, underlying_text underlying, root_written root, month_written month, number_written strike.hundredths (omega arith), underlying_written underlying, regrouped (root_text root) (codes ":") (right_text right) (month_text month) (decimal strike.hundredths) (underlying_text underlying))
 
 pub leg_written : (market : Reference) (leg : Leg) → leg.ratio < 2 ^ 32 → Spells market (handed_back market leg) (leg_text leg)
 unfolding leg_text
@@ -73,7 +79,7 @@ leg_written market leg small =
       lots_is = number_written leg.ratio small;
       contract_is = contract_written leg.contract;
       reference_is = inl (refl, refl);
-      all = sym (append-nil _);
+      all = simp (append_assoc, append-nil);
     }
 
 -- what `read_leg` answers is `Ok` of just the leg that the text spells

@@ -2,7 +2,7 @@
 use Rattle.std.proofs.Common.{◌≡◌, ℕ, List, [], Ok, Result, sym, ap, ◌∙◌, subst, append-nil}
 use Rattle.contracts.specs.declared.plain.State.{State}
 use Rattle.notation.specs.LegReading.{whole, read_state}
-use Rattle.notation.specs.Letters.{state_text}
+use Rattle.contracts.specs.Letters.{state_text}
 use Rattle.notation.specs.Reading.{number}
 use Rattle.notation.specs.Spelling.{Number}
 use Rattle.notation.specs.declared.part.LegPart.{LegPart}

@@ -6,7 +6,7 @@ use Rattle.contracts.specs.declared.plain.Reference.{Reference}
 use Rattle.contracts.specs.declared.plain.PlainLeg.{PlainLeg}
 use Rattle.notation.specs.Reading.{Read, mark, opens, number}
 use Rattle.notation.specs.LegReading.{read_side, read_state, read_contract, read_field, read_own, read_reference, read_parts, read_leg, whole}
-use Rattle.notation.specs.Letters.{side_text, state_text}
+use Rattle.contracts.specs.Letters.{side_text, state_text}
 use Rattle.notation.specs.Spelling.{Number, OwnSpelled, ReferenceSpelled, Spells}
 use Rattle.notation.specs.declared.part.LegPart.{LegPart}
 use Rattle.notation.specs.declared.part.LegPart.TheVariants as part

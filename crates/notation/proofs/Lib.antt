@@ -1,5 +1,3 @@
-pub mod Front
-pub mod Letters
 pub mod Numbers
 pub mod Parts
 pub mod Terms

@@ -1,10 +1,10 @@
 -- A number is read just where its digits stand. Assumes nothing.
 use Rattle.std.proofs.Common.{◌≡◌, ℕ, ◌+◌, ◌-◌, ◌*◌, ◌^◌, ◌<◌, ◌≤◌, Bool, true, false, cond, ltb, ◌⊎◌, List, [], ◌∷◌, ◌++◌, Ok, Err, Result, sym, refl, ap, ◌∙◌, inl, inr, arith}
-use Rattle.std.proofs.lemmas.Bool.{and_parts, leb-true, lt-ltb, ltb-true, cond-true}
+use Rattle.std.proofs.lemmas.Bool.{lt-ltb, ltb-true, cond-true}
+use Rattle.std.proofs.lemmas.Bool.Decides.{nat_tests}
 use Rattle.notation.specs.Reading.{Read, digit, more, number}
 use Rattle.notation.specs.Spelling.{Digits, number_after, Number}
 use Rattle.notation.specs.declared.part.LegPart.{LegPart}
-use Rattle.notation.proofs.Front.{is_digit}
 
 -- what follows a number does not begin with a digit
 abbrev pub Stops : List ℕ → Type 0
@@ -16,13 +16,16 @@ cond_ways true x y r e = inl (refl, e)
 cond_ways false x y r e = inr (refl, e)
 
 pub err_not_ok : {X : Type 0} {part : LegPart} {x : X} → ◌≡◌ {A = Result X LegPart} (Err part) (Ok x) → ⊥
-err_not_ok e = let z : ◌≡◌ {A = ℕ} 0 1 = cc in omega arith
+err_not_ok e = cc
 
 pub ok_same : {X : Type 0} {x y : X × List ℕ} → ◌≡◌ {A = Read X} (Ok x) (Ok y) → x ≡ y
 ok_same e = cc
 
+is_digit : (c : ℕ) → 48 ≤ c → c ≤ 57 → digit c ≡ true
+is_digit c low high = grind (arith, nat_tests)
+
 digit_range : (c : ℕ) → digit c ≡ true → (48 ≤ c) × (c ≤ 57)
-digit_range c e = let h = and_parts _ _ e in (leb-true 48 c h.0, leb-true c 57 h.1)
+digit_range c e = (grind (arith, nat_tests), grind (arith, nat_tests))
 
 -- the digits that `more` goes past
 pub record Past (n : ℕ) (text : List ℕ) (v : ℕ) (rest : List ℕ) : Type 0 where

@@ -1,6 +1,10 @@
 -- Each part is read just where it is spelled. Assumes nothing.
-use Rattle.std.proofs.Common.{◌≡◌, ℕ, true, ◌||◌, eqb, List, [], ◌∷◌, ◌++◌, Some, None, Ok, Err, codes, Option, sym, refl, ap, ◌∙◌, subst, inl, inr, append_assoc, arith}
-use Rattle.std.proofs.lemmas.Bool.{eqb-true, eqb-false, ne_eqb, or_parts, or_from, cond-true, cond-false, false≢true}
+use Rattle.std.proofs.Common.{◌≡◌, ℕ, true, List, [], ◌∷◌, ◌++◌, Some, None, Ok, Err, codes, Option, refl, ◌∙◌, subst, inl, inr, append_assoc, arith}
+use Rattle.std.proofs.lemmas.Bool.Decides.{nat_tests}
+use Rattle.std.proofs.lemmas.Bool.{cond-true}
+use Rattle.contracts.specs.declared.contract.Kind.{Kind}
+use Rattle.contracts.specs.declared.contract.Kind.TheVariants as kind
+use Rattle.contracts.specs.declared.contract.Right.{Right}
 use Rattle.contracts.specs.declared.contract.Right.TheVariants.{Call, Put}
 use Rattle.contracts.specs.declared.plain.Side.{Side}
 use Rattle.contracts.specs.declared.plain.Side.TheVariants.{Bought, Sold}
@@ -9,13 +13,12 @@ use Rattle.contracts.specs.declared.plain.State.TheVariants.{Trading, Auction, S
 use Rattle.contracts.specs.declared.plain.PlainRoot.{PlainRoot}
 use Rattle.contracts.specs.declared.plain.PlainMonth.{PlainMonth}
 use Rattle.notation.specs.Reading.{Read, and_then, one, mark, number}
-use Rattle.notation.specs.LegReading.{side_of, kind_of, state_of, root_character, meant, read_side, read_kind, read_state, read_root_character, read_root, read_month}
-use Rattle.notation.specs.Letters.{side_text, right_text, state_text}
+use Rattle.contracts.specs.Letters.{side_of, kind_of, state_of}
+use Rattle.notation.specs.LegReading.{root_character, meant, read_side, read_kind, read_state, read_root_character, read_root, read_month}
+use Rattle.contracts.specs.Letters.{side_text, right_text, state_text}
 use Rattle.notation.specs.Spelling.{MonthSpelled, RootCharacter, RootSpelled}
 use Rattle.notation.specs.declared.part.LegPart.{LegPart}
 use Rattle.notation.specs.declared.part.LegPart.TheVariants as part
-use Rattle.notation.specs.declared.read.Kind.{Kind}
-use Rattle.notation.specs.declared.read.Kind.TheVariants as kind
 use Rattle.notation.proofs.Numbers.{Stops, Cut, cond_ways, err_not_ok, ok_same, number_past, number_at}
 
 -- where both of two parts are read, the first is, and then the second
@@ -25,72 +28,36 @@ then_ways (Err part) next y e = absurd (err_not_ok e)
 
 pub mark_past : (wanted : ℕ) (part : LegPart) (text : List ℕ) (got : Unit {0} × List ℕ) → mark wanted part text ≡ Ok got → text ≡ wanted ∷ got.1
 mark_past wanted part [] got e = absurd (err_not_ok e)
-mark_past wanted part (c ∷ text) got e =
-    elim (cond_ways (eqb c wanted) _ _ _ e) [
-      | inl h ↦ let is = eqb-true c wanted h.0 in let rest = ap (λ (g : Unit {0} × List ℕ). g.1) (ok_same h.1) in cc
-      | inr h ↦ absurd (err_not_ok h.1)
-    ]
+mark_past wanted part (c ∷ text) got e = grind (arith, nat_tests)
 
 one_past : (part : LegPart) (text : List ℕ) (got : ℕ × List ℕ) → one part text ≡ Ok got → text ≡ got.0 ∷ got.1
 one_past part [] got e = absurd (err_not_ok e)
-one_past part (c ∷ text) got e = let h = ok_same e in ap (λ (g : ℕ × List ℕ). g.0 ∷ g.1) h
+one_past part (c ∷ text) got e = cc
 
 meant_past : {X : Type 0} (part : LegPart) (rest : List ℕ) (o : Option X) (got : X × List ℕ) → meant part rest o ≡ Ok got → (o ≡ Some got.0) × (rest ≡ got.1)
-meant_past part rest (Some x) got e = let h = ok_same e in (ap (λ (g : _ × List ℕ). Some g.0) h, ap (λ (g : _ × List ℕ). g.1) h)
+meant_past part rest (Some x) got e = (cc, cc)
 meant_past part rest None got e = absurd (err_not_ok e)
 
 -- the letters
-none_not_some : {X : Type 0} {x : X} → ◌≡◌ {A = Option X} None (Some x) → ⊥
-none_not_some e = let z : ◌≡◌ {A = ℕ} 0 1 = cc in omega arith
-
-some_same : {X : Type 0} {x y : X} → ◌≡◌ {A = Option X} (Some x) (Some y) → x ≡ y
-some_same e = cc
-
-lettered : {X : Type 0} (spelt : X → List ℕ) (c w : ℕ) (x y : X) → eqb c w ≡ true → ◌≡◌ {A = Option X} (Some x) (Some y) → spelt x ≡ w ∷ [] → c ∷ [] ≡ spelt y
-lettered spelt c w x y h e s = ap (λ (k : ℕ). k ∷ []) (eqb-true c w h) ∙ sym s ∙ ap spelt (some_same e)
-
 side_letter : (c : ℕ) (side : Side) → side_of c ≡ Some side → c ∷ [] ≡ side_text side
-side_letter c side e =
-    elim (cond_ways (eqb c 66) _ _ _ e) [
-      | inl h ↦ lettered side_text c 66 Bought side h.0 h.1 refl
-      | inr k ↦ elim (cond_ways (eqb c 83) _ _ _ k.1) [
-        | inl h ↦ lettered side_text c 83 Sold side h.0 h.1 refl
-        | inr h ↦ absurd (none_not_some h.1)
-      ]
-    ]
+side_letter c Bought e = grind (arith, nat_tests)
+side_letter c Sold e = grind (arith, nat_tests)
 
 abbrev pub kind_text : Kind → List ℕ
 kind_text kind.Future = codes "F"
-kind_text (kind.Option right) = right_text right
+kind_text kind.Call = right_text Call
+kind_text kind.Put = right_text Put
 
 kind_letter : (c : ℕ) (k : Kind) → kind_of c ≡ Some k → c ∷ [] ≡ kind_text k
-kind_letter c k e =
-    elim (cond_ways (eqb c 70) _ _ _ e) [
-      | inl h ↦ lettered kind_text c 70 kind.Future k h.0 h.1 refl
-      | inr g ↦ elim (cond_ways (eqb c 67) _ _ _ g.1) [
-        | inl h ↦ lettered kind_text c 67 (kind.Option Call) k h.0 h.1 refl
-        | inr f ↦ elim (cond_ways (eqb c 80) _ _ _ f.1) [
-          | inl h ↦ lettered kind_text c 80 (kind.Option Put) k h.0 h.1 refl
-          | inr h ↦ absurd (none_not_some h.1)
-        ]
-      ]
-    ]
+kind_letter c kind.Future e = grind (arith, nat_tests)
+kind_letter c kind.Call e = grind (arith, nat_tests)
+kind_letter c kind.Put e = grind (arith, nat_tests)
 
 state_letter : (c : ℕ) (s : State) → state_of c ≡ Some s → c ∷ [] ≡ state_text s
-state_letter c s e =
-    elim (cond_ways (eqb c 84) _ _ _ e) [
-      | inl h ↦ lettered state_text c 84 Trading s h.0 h.1 refl
-      | inr g ↦ elim (cond_ways (eqb c 65) _ _ _ g.1) [
-        | inl h ↦ lettered state_text c 65 Auction s h.0 h.1 refl
-        | inr f ↦ elim (cond_ways (eqb c 72) _ _ _ f.1) [
-          | inl h ↦ lettered state_text c 72 Suspended s h.0 h.1 refl
-          | inr k ↦ elim (cond_ways (eqb c 88) _ _ _ k.1) [
-            | inl h ↦ lettered state_text c 88 Forbidden s h.0 h.1 refl
-            | inr h ↦ absurd (none_not_some h.1)
-          ]
-        ]
-      ]
-    ]
+state_letter c Trading e = grind (arith, nat_tests)
+state_letter c Auction e = grind (arith, nat_tests)
+state_letter c Suspended e = grind (arith, nat_tests)
+state_letter c Forbidden e = grind (arith, nat_tests)
 
 -- one letter that stands for something
 letter_past : {X : Type 0} (part : LegPart) (of : ℕ → Option X) (spelt : X → List ℕ) → ((c : ℕ) (x : X) → of c ≡ Some x → c ∷ [] ≡ spelt x) → (text : List ℕ) (got : X × List ℕ) → and_then (one part text) (λ c rest. meant part rest (of c)) ≡ Ok got → text ≡ spelt got.0 ++ got.1
@@ -113,10 +80,14 @@ pub side_at : (side : Side) (rest : List ℕ) → read_side (side_text side ++ r
 side_at Bought rest = refl
 side_at Sold rest = refl
 
-pub kind_at : (k : Kind) (rest : List ℕ) → read_kind (kind_text k ++ rest) ≡ Ok (k, rest)
-kind_at kind.Future rest = refl
-kind_at (kind.Option Call) rest = refl
-kind_at (kind.Option Put) rest = refl
+-- the kind of an option
+abbrev pub optional : Right → Kind
+optional Call = kind.Call
+optional Put = kind.Put
+
+pub right_at : (right : Right) (rest : List ℕ) → read_kind (right_text right ++ rest) ≡ Ok (optional right, rest)
+right_at Call rest = refl
+right_at Put rest = refl
 
 pub state_at : (s : State) (rest : List ℕ) → read_state (state_text s ++ rest) ≡ Ok (s, rest)
 state_at Trading rest = refl
@@ -148,17 +119,10 @@ month_at part month text rest h stops =
 
 -- the root
 root_told : (c : ℕ) → root_character c ≡ true → RootCharacter c
-root_told c e =
-    elim (cond_ways (eqb c 32 || (eqb c 58 || eqb c 47)) _ _ _ e) [
-      | inl h ↦ absurd (false≢true h.1)
-      | inr h ↦
-          let p = or_parts _ _ h.0 in
-          let q = or_parts _ _ p.1 in
-          (eqb-false c 32 p.0, eqb-false c 58 q.0, eqb-false c 47 q.1)
-    ]
+root_told c e = (λ is. grind (arith, nat_tests), λ is. grind (arith, nat_tests), λ is. grind (arith, nat_tests))
 
 root_tells : (c : ℕ) → RootCharacter c → root_character c ≡ true
-root_tells c h = cond-false _ _ _ (or_from _ _ (ne_eqb c 32 h.0) (or_from _ _ (ne_eqb c 58 h.1) (ne_eqb c 47 h.2)))
+root_tells c h = grind (arith, nat_tests)
 
 root_character_past : (text : List ℕ) (got : ℕ × List ℕ) → read_root_character text ≡ Ok got → RootCharacter got.0 × (text ≡ got.0 ∷ got.1)
 root_character_past text got e =

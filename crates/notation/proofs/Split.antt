@@ -1,69 +1,79 @@
--- A run of spaces holds no word, and a run of other characters is the first word. Assumes nothing.
-use Rattle.std.proofs.Common.{◌≡◌, ℕ, zero, suc, pred, ◌+◌, ◌<◌, ◌≤◌, Bool, true, false, List, [], ◌∷◌, length, get_or, take, drop, sym, refl, ap, ◌∙◌, subst, ⊎_elim, add-zero, arith}
-use Rattle.std.proofs.lemmas.List.{length-drop, get_or-drop}
-use Rattle.std.proofs.lemmas.Bool.{cond-true, cond-false, cases_Bool, cases_lt}
-use Rattle.notation.specs.Words.{space, onto, words}
+-- The first word of a line: it begins behind the spaces, and ends before the next space. Assumes nothing.
+use Rattle.std.proofs.Common.{◌≡◌, ℕ, suc, ◌<◌, ◌≤◌, ltb, cond, Bool, true, false, not, List, [], ◌∷◌, length, get_or, take, drop, Some, None, sym, refl, ap, ◌∙◌, inl, inr, add-zero, arith}
+use Rattle.std.specs.List.{position, position_or_len}
+use Rattle.std.specs.Option.{unwrap_or}
+use Rattle.std.proofs.Math.Numerals.{one-add}
+use Rattle.std.proofs.lemmas.Bool.Decides.{nat_tests}
+use Rattle.std.proofs.lemmas.Bool.{cases_Bool, cond-true, cond-false, not-true}
+use Rattle.std.proofs.lemmas.List.{drop_all, length-drop, get_or-drop}
+use Rattle.std.proofs.lemmas.List.Sums.{prefix_len-le-length}
+use Rattle.std.proofs.lemmas.List.Quantifiers.{position-Some}
+use Rattle.notation.specs.Words.{space, onto, opening, words}
 
-not_false : (b : Bool) → (b ≡ false → ⊥) → b ≡ true
-not_false b h = ⊎_elim (λ (e : b ≡ true). e) (λ (e : b ≡ false). absurd (h e)) (cases_Bool b)
+-- the place of the first character that passes
+place_here : (p : ℕ → Bool) (c : ℕ) (cs : List ℕ) → p c ≡ true → position_or_len p (c ∷ cs) ≡ 0
+place_here p c cs h = cond-false _ _ _ (ap not h)
 
-pub spaces : (n : ℕ) (xs : List ℕ) → n ≤ length xs → ((k : ℕ) → k < n → space (get_or xs k 0) ≡ true) → words xs ≡ words (drop n xs)
-spaces zero xs h all = refl
-spaces (suc n) [] h all = absurd (omega arith)
-spaces (suc n) (c ∷ cs) h all = cond-true (space c) _ _ (all 0 (omega arith)) ∙ spaces n cs (omega arith) (λ k p. all (suc k) (omega arith))
+place_later : (p : ℕ → Bool) (c : ℕ) (cs : List ℕ) → p c ≡ false → position_or_len p (c ∷ cs) ≡ suc (position_or_len p cs)
+place_later p c cs h = cond-true _ _ _ (ap not h) ∙ one-add _
 
--- no word where nothing is left
-pub nothing : (xs : List ℕ) → length xs ≡ 0 → words xs ≡ []
-nothing [] e = refl
-nothing (c ∷ cs) e = absurd (omega arith)
+past_spaces : (xs : List ℕ) → words xs ≡ words (drop (position_or_len (λ c. not (space c)) xs) xs)
+past_spaces [] = refl
+past_spaces (c ∷ cs) =
+    elim (cases_Bool (space c)) [
+      | inl s ↦ cond-true _ _ _ s ∙ past_spaces cs ∙ ap (λ n. words (drop n (c ∷ cs))) (sym (place_later (λ c. not (space c)) c cs (ap not s)))
+      | inr s ↦ ap (λ n. words (drop n (c ∷ cs))) (sym (place_here (λ c. not (space c)) c cs (ap not s)))
+    ]
 
-pub front : (n : ℕ) (xs : List ℕ) → suc n ≤ length xs → ((k : ℕ) → k < suc n → space (get_or xs k 0) ≡ false) → (suc n < length xs → space (get_or xs (suc n) 0) ≡ true) → words xs ≡ take (suc n) xs ∷ words (drop (suc n) xs)
-front n [] h all ends = absurd (omega arith)
-front zero (c ∷ []) h all ends = cond-false (space c) _ _ (all 0 (omega arith))
-front zero (c ∷ d ∷ ds) h all ends = cond-false (space c) _ _ (all 0 (omega arith)) ∙ cond-true (space d) _ _ (ends (omega arith))
-front (suc n) (c ∷ []) h all ends = absurd (omega arith)
-front (suc n) (c ∷ d ∷ ds) h all ends =
-    cond-false (space c) _ _ (all 0 (omega arith))
-    ∙ cond-false (space d) _ _ (all 1 (omega arith))
-    ∙ ap (onto c) (front n (d ∷ ds) (omega arith) (λ k p. all (suc k) (omega arith)) (λ p. ends (omega arith)))
+first_word : (c : ℕ) (cs : List ℕ) → space c ≡ false → words (c ∷ cs) ≡ take (suc (position_or_len space cs)) (c ∷ cs) ∷ words (drop (position_or_len space cs) cs)
+first_word c [] h = cond-false _ _ _ h
+first_word c (d ∷ ds) h =
+    elim (cases_Bool (space d)) [
+      | inl s ↦ cond-false _ _ _ h ∙ cond-true _ _ _ s ∙ ap (λ n. take (suc n) (c ∷ d ∷ ds) ∷ words (drop n (d ∷ ds))) (sym (place_here space d ds s))
+      | inr s ↦
+          cond-false _ _ _ h ∙ cond-false _ _ _ s ∙ ap (onto c) (first_word d ds s)
+          ∙ ap (λ n. take (suc n) (c ∷ d ∷ ds) ∷ words (drop n (d ∷ ds))) (sym (place_later space d ds s))
+    ]
 
-module _
-    (xs : List ℕ) (n : ℕ) (within : n ≤ length xs)
-    (blank : (k : ℕ) → k < n → space (get_or xs k 0) ≡ true)
-    (stops : n < length xs → space (get_or xs n 0) ≡ true → ⊥)
-    (ts : List ℕ) (left : ts ≡ drop n xs)
-    (m : ℕ) (fits : m ≤ length ts)
-    (full : (k : ℕ) → k < m → space (get_or ts k 0) ≡ false)
-    (ends : m < length ts → space (get_or ts m 0) ≡ false → ⊥) where
-  same : words xs ≡ words ts
-  same = spaces n xs within blank ∙ ap words (sym left)
+first_of : (text : List ℕ) → 0 < length text → space (get_or text 0 0) ≡ false → words text ≡ take (position_or_len space text) text ∷ words (drop (position_or_len space text) text)
+first_of [] some h = absurd (omega arith)
+first_of (c ∷ cs) some h = first_word c cs h ∙ ap (λ n. take n (c ∷ cs) ∷ words (drop n (c ∷ cs))) (sym (place_later space c cs h))
 
-  ending : m < length ts → space (get_or ts m 0) ≡ true
-  ending h = not_false _ (ends h)
+-- what `position` answers of that place, n, in a text of length l
+found : (n l i : ℕ) → cond (ltb n l) (Some n) None ≡ Some i → n ≡ i
+found n l i e = grind (arith, nat_tests)
 
-  shorter : length ts + n ≡ length xs
-  shorter = let e = ap length left ∙ length-drop n xs in omega arith
+not_found : (n l : ℕ) → cond (ltb n l) (Some n) None ≡ None → l ≤ n
+not_found n l e = grind (arith, nat_tests)
 
-  pub no_word : m ≡ 0 → words xs ≡ []
-  no_word z =
-      let l = shorter in
-      let at : length ts ≡ 0 =
-      ⊎_elim
-      (λ (h : 0 < length ts).
-      let first : get_or ts 0 0 ≡ get_or xs n 0 = ap (λ (l : List ℕ). get_or l 0 0) left ∙ get_or-drop n xs 0 0 ∙ ap (λ (k : ℕ). get_or xs k 0) (add-zero n) in
-      let e : space (get_or ts 0 0) ≡ true = subst (λ (k : ℕ). space (get_or ts k 0) ≡ true) z (ending (omega arith)) in
-      absurd (stops (omega arith) (subst (λ (c : ℕ). space c ≡ true) first e)))
-      (λ (h : length ts ≤ 0). omega arith)
-      (cases_lt 0 (length ts)) in
-      same ∙ nothing ts at
+or_all : (n l : ℕ) → n ≤ l → unwrap_or (cond (ltb n l) (Some n) None) l ≡ n
+or_all n l within = grind (arith, nat_tests)
 
-  pub one_word : (ws rs : List ℕ) → ws ≡ take m ts → rs ≡ drop m ts → 0 < m → (words xs ≡ ws ∷ words rs) × (length rs < length xs)
-  one_word ws rs p q some =
-      let k = pred m in
-      let e : suc k ≡ m = omega arith in
-      let l = shorter in
-      let r = ap length q ∙ length-drop m ts in
-      let w : words ts ≡ take m ts ∷ words (drop m ts) =
-      subst (λ (j : ℕ). words ts ≡ take j ts ∷ words (drop j ts)) e
-      (front k ts (omega arith) (λ j h. full j (omega arith)) (λ h. subst (λ (j : ℕ). space (get_or ts j 0) ≡ true) (sym e) (ending (omega arith)))) in
-      (same ∙ w ∙ sym (λ i. p i ∷ words (q i)), omega arith)
+-- no character is other than a space
+pub no_word : (xs : List ℕ) → position (λ c. not (space c)) xs ≡ None → words xs ≡ []
+no_word xs e = past_spaces xs ∙ ap words (drop_all _ xs (not_found _ _ e))
+
+-- n spaces stand before the word, and m characters are in it
+pub one_word : (xs text word rest : List ℕ) (n m : ℕ) → position (λ c. not (space c)) xs ≡ Some n → text ≡ drop n xs → m ≡ unwrap_or (position space text) (length text) → word ≡ take m text → rest ≡ drop m text → words xs ≡ word ∷ words rest
+one_word xs text word rest n m e f g h k =
+    let at = position-Some (λ c. not (space c)) xs n 0 e in
+    let within = at.0 in
+    let long = ap length f ∙ length-drop n xs in
+    let begins : space (get_or text 0 0) ≡ false =
+    ap (λ (l : List ℕ). space (get_or l 0 0)) f ∙ ap space (get_or-drop n xs 0 0 ∙ ap (λ i. get_or xs i 0) (add-zero n)) ∙ not-true _ at.1 in
+    past_spaces xs
+    ∙ ap (λ i. words (drop i xs)) (found _ _ _ e)
+    ∙ ap words (sym f)
+    ∙ first_of text (omega arith) begins
+    ∙ ap (λ i. take i text ∷ words (drop i text)) (sym (g ∙ or_all _ _ (prefix_len-le-length (λ c. not (space c)) text)))
+    ∙ (λ i. sym h i ∷ words (sym k i))
+
+opening_few : (c : ℕ) (cs : List ℕ) (ws : List (List ℕ)) → length (opening c cs ws) ≤ suc (length ws)
+opening_few c [] ws = omega arith
+opening_few c (d ∷ ds) [] = grind (arith, nat_tests)
+opening_few c (d ∷ ds) (w ∷ ws) = grind (arith, nat_tests)
+
+-- each word has a character of its own
+pub words_few : (xs : List ℕ) → length (words xs) ≤ length xs
+words_few [] = omega arith
+words_few (c ∷ cs) = grind (arith, nat_tests, words_few cs, opening_few c cs (words cs))

@@ -1,6 +1,10 @@
 -- The contract is read just where it is spelled. Assumes nothing.
 use Rattle.std.proofs.Common.{◌≡◌, ℕ, false, eqb, List, [], ◌∷◌, ◌++◌, Ok, codes, refl, ap, subst, inl, inr, append_assoc}
 use Rattle.std.proofs.lemmas.Bool.{cond-false}
+use Rattle.contracts.specs.declared.contract.Kind.{Kind}
+use Rattle.contracts.specs.declared.contract.Kind.TheVariants as kind
+use Rattle.contracts.specs.declared.contract.Right.{Right}
+use Rattle.contracts.specs.declared.contract.Right.TheVariants.{Call, Put}
 use Rattle.contracts.specs.declared.plain.PlainRoot.{PlainRoot}
 use Rattle.contracts.specs.declared.plain.PlainMonth.{PlainMonth}
 use Rattle.contracts.specs.declared.plain.PlainUnderlying.{PlainUnderlying}
@@ -8,14 +12,12 @@ use Rattle.contracts.specs.declared.plain.PlainUnderlying.TheVariants as on
 use Rattle.contracts.specs.declared.plain.PlainContract.{PlainContract}
 use Rattle.contracts.specs.declared.plain.PlainContract.TheVariants as plain
 use Rattle.notation.specs.Reading.{mark, opens, digit, number}
-use Rattle.notation.specs.LegReading.{read_root, read_kind, read_month, read_underlying, read_terms, read_contract}
-use Rattle.notation.specs.Letters.{right_text}
+use Rattle.notation.specs.LegReading.{read_root, read_kind, read_month, read_underlying, read_option, read_terms, read_contract}
+use Rattle.contracts.specs.Letters.{right_text}
 use Rattle.notation.specs.Spelling.{MonthSpelled, RootSpelled, UnderlyingSpelled, ContractSpelled}
 use Rattle.notation.specs.declared.part.LegPart.TheVariants as part
-use Rattle.notation.specs.declared.read.Kind.{Kind}
-use Rattle.notation.specs.declared.read.Kind.TheVariants as kind
 use Rattle.notation.proofs.Numbers.{Stops, Cut, cond_ways, ok_same, number_past, number_at}
-use Rattle.notation.proofs.Parts.{then_ways, mark_past, kind_text, kind_past, kind_at, month_past, month_at, root_past, root_at}
+use Rattle.notation.proofs.Parts.{then_ways, mark_past, kind_text, kind_past, optional, right_at, month_past, month_at, root_past, root_at}
 
 -- what follows a contract is nothing, or begins with `/`
 abbrev pub Closed : List ℕ → Type 0
@@ -55,13 +57,11 @@ underlying_stops (on.Future month) text rest h closed = rw h.2 refl
 
 -- a contract after its `:`
 module _ (root : PlainRoot) (month : PlainMonth) (r m : List ℕ) (hr : RootSpelled root r) (hm : MonthSpelled month m) where
-  abbrev Sofar : Kind → List ℕ → PlainContract × List ℕ → Type 0
-  Sofar k text got = (c : List ℕ) × ContractSpelled got.0 c × (r ++ (codes ":" ++ (kind_text k ++ (codes ":" ++ (m ++ text)))) ≡ c ++ got.1)
+  abbrev Sofar : List ℕ → List ℕ → PlainContract × List ℕ → Type 0
+  Sofar k text got = (c : List ℕ) × ContractSpelled got.0 c × (r ++ (codes ":" ++ (k ++ (codes ":" ++ (m ++ text)))) ≡ c ++ got.1)
 
-  terms_past : (k : Kind) (text : List ℕ) (got : PlainContract × List ℕ) → read_terms k root month text ≡ Ok got → Sofar k text got
-  terms_past kind.Future text got e =
-      subst (Sofar kind.Future text) (ok_same e) (r ++ codes ":F:" ++ m, (r, m, hr, hm, refl), simp append_assoc)
-  terms_past (kind.Option right) text got e =
+  option_past : (right : Right) (text : List ℕ) (got : PlainContract × List ℕ) → read_option right root month text ≡ Ok got → Sofar (right_text right) text got
+  option_past right text got e =
       let a = then_ways (mark 58 part.Strike text) _ got e in
       let b = then_ways (number part.Strike a.0.1) _ got a.2 in
       let c = then_ways (read_underlying b.0.1) _ got b.2 in
@@ -70,11 +70,18 @@ module _ (root : PlainRoot) (month : PlainMonth) (r m : List ℕ) (hr : RootSpel
       let u = underlying_past b.0.1 c.0 c.1 in
       let es = s.2 in
       let eu = u.2 in
-      subst (Sofar (kind.Option right) text) (ok_same c.2) (
-        r ++ codes ":" ++ right_text right ++ codes ":" ++ m ++ codes ":" ++ s.0 ++ u.0,
-        (r, m, s.0, u.0, hr, hm, s.1, u.1, refl),
-        simp append_assoc (cc),
-      )
+      let all = r ++ codes ":" ++ right_text right ++ codes ":" ++ m ++ codes ":" ++ s.0 ++ u.0 in
+      subst (Sofar (right_text right) text) (ok_same c.2) (all, (r, m, s.0, u.0, hr, hm, s.1, u.1, refl {a = all}), simp append_assoc (cc))
+
+  terms_past : (k : Kind) (text : List ℕ) (got : PlainContract × List ℕ) → read_terms k root month text ≡ Ok got → Sofar (kind_text k) text got
+  terms_past kind.Future text got e =
+      subst (Sofar (codes "F") text) (ok_same e) (r ++ codes ":F:" ++ m, (r, m, hr, hm, refl), simp append_assoc)
+  terms_past kind.Call text got e = option_past Call text got e
+  terms_past kind.Put text got e = option_past Put text got e
+
+optional_terms : (right : Right) (root : PlainRoot) (month : PlainMonth) (text : List ℕ) → read_terms (optional right) root month text ≡ read_option right root month text
+optional_terms Call root month text = refl
+optional_terms Put root month text = refl
 
 -- the parts of a contract, one after another
 contract_joined : (r k m t text a b c d f g rest : List ℕ) → text ≡ 58 ∷ a → a ≡ r ++ b → b ≡ 58 ∷ c → c ≡ k ++ d → d ≡ 58 ∷ f → f ≡ m ++ g → r ++ (58 ∷ (k ++ (58 ∷ (m ++ g)))) ≡ t ++ rest → text ≡ codes ":" ++ (t ++ rest)
@@ -112,8 +119,9 @@ contract_at (plain.Option right root month strike underlying) text rest (r, m, s
     rw (
       whole,
       root_at root r (codes ":" ++ (right_text right ++ (codes ":" ++ (m ++ (codes ":" ++ (s ++ (u ++ rest))))))) hr,
-      kind_at (kind.Option right) (codes ":" ++ (m ++ (codes ":" ++ (s ++ (u ++ rest))))),
+      right_at right (codes ":" ++ (m ++ (codes ":" ++ (s ++ (u ++ rest))))),
       month_at part.Month month m (codes ":" ++ (s ++ (u ++ rest))) hm refl,
+      optional_terms right root month (codes ":" ++ (s ++ (u ++ rest))),
       number_at part.Strike strike s (u ++ rest) hs (underlying_stops underlying u rest hu closed),
       underlying_at underlying u rest hu closed,
     )

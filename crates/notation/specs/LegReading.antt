@@ -1,10 +1,12 @@
 -- What is read of a leg's text, part by part. Assumes nothing.
 use Rattle.std.specs.Prelude.{ℕ, Bool, true, false, cond, ◌||◌, List, length, Some, None, Ok, Err, Option, Result, ◌==◌}
+use Rattle.contracts.specs.Letters.{side_of, kind_of, state_of}
+use Rattle.contracts.specs.declared.contract.Kind.{Kind}
+use Rattle.contracts.specs.declared.contract.Kind.TheVariants as kind
+use Rattle.contracts.specs.declared.contract.Right.{Right}
 use Rattle.contracts.specs.declared.contract.Right.TheVariants.{Call, Put}
 use Rattle.contracts.specs.declared.plain.Side.{Side}
-use Rattle.contracts.specs.declared.plain.Side.TheVariants.{Bought, Sold}
 use Rattle.contracts.specs.declared.plain.State.{State}
-use Rattle.contracts.specs.declared.plain.State.TheVariants.{Trading, Auction, Suspended, Forbidden}
 use Rattle.contracts.specs.declared.plain.PlainRoot.{PlainRoot}
 use Rattle.contracts.specs.declared.plain.PlainMonth.{PlainMonth}
 use Rattle.contracts.specs.declared.plain.PlainUnderlying.{PlainUnderlying}
@@ -15,22 +17,7 @@ use Rattle.contracts.specs.declared.plain.Reference.{Reference}
 use Rattle.contracts.specs.declared.plain.PlainLeg.{PlainLeg}
 use Rattle.notation.specs.declared.part.LegPart.{LegPart}
 use Rattle.notation.specs.declared.part.LegPart.TheVariants as part
-use Rattle.notation.specs.declared.read.Kind.{Kind}
-use Rattle.notation.specs.declared.read.Kind.TheVariants as kind
 use Rattle.notation.specs.Reading.{Read, and_then, one, mark, opens, number}
-
--- B or S
-abbrev pub side_of : ℕ → Option Side
-side_of c = cond (c == 66) (Some Bought) (cond (c == 83) (Some Sold) None)
-
--- F, C or P
-abbrev pub kind_of : ℕ → Option Kind
-kind_of c = cond (c == 70) (Some kind.Future) (cond (c == 67) (Some (kind.Option Call)) (cond (c == 80) (Some (kind.Option Put)) None))
-
--- T, A, H or X
-abbrev pub state_of : ℕ → Option State
-state_of c =
-    cond (c == 84) (Some Trading) (cond (c == 65) (Some Auction) (cond (c == 72) (Some Suspended) (cond (c == 88) (Some Forbidden) None)))
 
 -- no space, `:` or `/`
 abbrev pub root_character : ℕ → Bool
@@ -41,14 +28,18 @@ abbrev pub meant : {X : Type 0} → LegPart → List ℕ → Option X → Read X
 meant part rest (Some x) = Ok (x, rest)
 meant part rest None = Err part
 
+-- the next letter's meaning
+abbrev pub letter : {X : Type 0} → (ℕ → Option X) → LegPart → List ℕ → Read X
+letter meaning part text = and_then (one part text) (λ c rest. meant part rest (meaning c))
+
 abbrev pub read_side : List ℕ → Read Side
-read_side text = and_then (one part.Side text) (λ c rest. meant part.Side rest (side_of c))
+read_side text = letter side_of part.Side text
 
 abbrev pub read_kind : List ℕ → Read Kind
-read_kind text = and_then (one part.Kind text) (λ c rest. meant part.Kind rest (kind_of c))
+read_kind text = letter kind_of part.Kind text
 
 abbrev pub read_state : List ℕ → Read State
-read_state text = and_then (one part.State text) (λ c rest. meant part.State rest (state_of c))
+read_state text = letter state_of part.State text
 
 abbrev pub read_root_character : List ℕ → Read ℕ
 read_root_character text = and_then (one part.Root text) (λ c rest. cond (root_character c) (Ok (c, rest)) (Err part.Root))
@@ -75,13 +66,18 @@ read_underlying text =
     (Ok (on.Spot, text))
 
 -- what an option has after its month: `:`, the strike and the underlying
-abbrev pub read_terms : Kind → PlainRoot → PlainMonth → List ℕ → Read PlainContract
-read_terms kind.Future root month text = Ok (plain.Future root month, text)
-read_terms (kind.Option right) root month text =
+abbrev pub read_option : Right → PlainRoot → PlainMonth → List ℕ → Read PlainContract
+read_option right root month text =
     and_then (mark 58 part.Strike text)
     (λ _ rest.
     and_then (number part.Strike rest)
     (λ strike rest. and_then (read_underlying rest) (λ underlying rest. Ok (plain.Option right root month strike underlying, rest))))
+
+-- what a contract of a kind has after its month
+abbrev pub read_terms : Kind → PlainRoot → PlainMonth → List ℕ → Read PlainContract
+read_terms kind.Future root month text = Ok (plain.Future root month, text)
+read_terms kind.Call root month text = read_option Call root month text
+read_terms kind.Put root month text = read_option Put root month text
 
 -- `:`, the root, `:`, the kind, `:`, the month, and what else an option has
 abbrev pub read_contract : List ℕ → Read PlainContract

@@ -1,6 +1,5 @@
 pub mod Reading
 pub mod LegReading
-pub mod Letters
 pub mod Writing
 pub mod Spelling
 pub mod Words

@@ -8,7 +8,7 @@ use Rattle.contracts.specs.declared.plain.PlainContract.{PlainContract}
 use Rattle.contracts.specs.declared.plain.PlainContract.TheVariants as plain
 use Rattle.contracts.specs.declared.plain.Reference.{Reference}
 use Rattle.contracts.specs.declared.plain.PlainLeg.{PlainLeg}
-use Rattle.notation.specs.Letters.{side_text, right_text, state_text}
+use Rattle.contracts.specs.Letters.{side_text, right_text, state_text}
 
 -- each character is one of 0 to 9
 abbrev pub Digits : List ℕ → Type 0

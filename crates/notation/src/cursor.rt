@@ -1,30 +1,44 @@
 // A text that is read from its front.
 ghost use Rattle.std.specs.Prelude.{◌≡◌, Some, None, MatchOption};
+ghost use Rattle.notation.specs.LegReading.{whole};
 ghost use Rattle.notation.specs.Reading.{Reads, opens, one, mark, digit_at, more, number};
 
 use crate::part::LegPart;
+use std::marker::Model;
 
+// What is left of a text, which a contract reads as its characters.
 #[derive(Drop)]
 pub(crate) struct Cursor<'a> {
-    pub(crate) rest: &'a [u8],
+    rest: &'a [u8],
 }
 
-impl Cursor<'_> {
+impl<'a> Model for Cursor<'a> {
+    ghost use Rattle.std.specs.Prelude.{ℕ, List};
+
+    ghost Value = { List ℕ };
+
+    ghost view = { λ s. s.rest.now };
+}
+
+impl<'a> Cursor<'a> {
+    pub(crate) fn new(text: &'a [u8]) -> Cursor<'a>
+        ensures { result ≡ text.now }
+    {
+        Cursor { rest: text }
+    }
+
     // The next character.
     pub(crate) fn next(&mut self, part: LegPart) -> Result<u8, LegPart>
-        ensures { Reads (one part) self.old.rest.now result self.new.rest.now }
+        ensures { Reads (one part) self.old result self.new }
     {
-        let rest = self.rest;
-        if rest.is_empty() {
-            return Err(part);
-        }
-        self.rest = &rest[1..];
-        Ok(rest[0])
+        let (first, rest) = self.rest.split_first().ok_or(part)?;
+        self.rest = rest;
+        Ok(*first)
     }
 
     // The next character, which has to be this one.
     pub(crate) fn expect(&mut self, wanted: u8, part: LegPart) -> Result<(), LegPart>
-        ensures { Reads (mark wanted part) self.old.rest.now result self.new.rest.now }
+        ensures { Reads (mark wanted part) self.old result self.new }
     {
         if self.next(part)? == wanted {
             Ok(())
@@ -35,45 +49,53 @@ impl Cursor<'_> {
 
     // Whether this character is the next.
     pub(crate) fn is_at(&self, wanted: u8) -> bool
-        ensures { result ≡ opens wanted self.now.rest.now }
+        ensures { result ≡ opens wanted self.now }
     {
-        !self.rest.is_empty() && self.rest[0] == wanted
+        self.rest.first() == Some(&wanted)
     }
 
     // The next character's digit, if it is one.
     fn digit(&mut self) -> Option<u8>
-        ensures { MatchOption result ((digit_at self.old.rest.now ≡ None) × (self.new.rest.now ≡ self.old.rest.now)) (λ d. digit_at self.old.rest.now ≡ Some (d, self.new.rest.now)) }
+        ensures { MatchOption result ((digit_at self.old ≡ None) × (self.new ≡ self.old)) (λ d. digit_at self.old ≡ Some (d, self.new)) }
     {
-        let rest = self.rest;
-        if rest.is_empty() || rest[0] < b'0' || rest[0] > b'9' {
+        let (first, rest) = self.rest.split_first()?;
+        if !first.is_ascii_digit() {
             return None;
         }
-        self.rest = &rest[1..];
-        Some(rest[0] - b'0')
+        self.rest = rest;
+        Some(*first - b'0')
     }
 
     // All the digits from here on, after those of a number.
     fn digits_after(&mut self, start: u32, part: LegPart) -> Result<u32, LegPart>
-        ensures { Reads (more part start) self.old.rest.now result self.new.rest.now }
+        ensures { Reads (more part start) self.old result self.new }
     {
         let mut value = start;
         while let Some(digit) = self.digit() {
-            let longer = value as u64 * 10 + digit as u64;
-            if longer > u32::MAX as u64 {
-                return Err(part);
-            }
-            value = longer as u32;
+            value = value
+                .checked_mul(10)
+                .and_then(|tens| tens.checked_add(u32::from(digit)))
+                .ok_or(part)?;
         }
         Ok(value)
     }
 
     // A number: one digit or more, as many as there are.
     pub(crate) fn number(&mut self, part: LegPart) -> Result<u32, LegPart>
-        ensures { Reads (number part) self.old.rest.now result self.new.rest.now }
+        ensures { Reads (number part) self.old result self.new }
     {
-        match self.digit() {
-            Some(first) => self.digits_after(first as u32, part),
-            None => Err(part),
+        let first = self.digit().ok_or(part)?;
+        self.digits_after(u32::from(first), part)
+    }
+
+    // Refuses what follows.
+    pub(crate) fn end(&self) -> Result<(), LegPart>
+        ensures { result ≡ whole (Ok (tt, self.now)) }
+    {
+        if self.rest.is_empty() {
+            Ok(())
+        } else {
+            Err(LegPart::End)
         }
     }
 }

@@ -1,4 +1,4 @@
-// A leg of a strategy ticket as text: read, and written; and the words of a line.
+// A leg of a strategy ticket from its text, and the words of a line.
 #![tactic(auto)]
 
 mod cursor;
@@ -6,4 +6,3 @@ pub mod field;
 pub mod part;
 pub mod read;
 pub mod words;
-pub mod write;

@@ -3,90 +3,38 @@ ghost use Rattle.std.specs.Prelude.{◌≡◌, ◌^◌, ◌<◌, Ok};
 ghost use Rattle.contracts.specs.declared.leg.Leg.{Leg};
 ghost use Rattle.notation.specs.Reading.{Reads};
 ghost use Rattle.notation.specs.Spelling.{Spells};
-ghost use Rattle.notation.specs.Writing.{leg_text, handed_back};
-ghost use Rattle.notation.specs.LegReading.{side_of, kind_of, state_of, read_side, read_kind, read_state, read_root_character, read_root, read_month, read_underlying, read_terms, read_contract, read_field, read_own, read_reference, read_parts, read_leg};
+ghost use Rattle.contracts.specs.Writing.{leg_text};
+ghost use Rattle.notation.specs.Writing.{handed_back};
+ghost use Rattle.notation.specs.LegReading.{letter, read_root_character, read_root, read_month, read_underlying, read_terms, read_contract, read_field, read_own, read_reference, read_parts, read_leg};
 
 use crate::cursor::Cursor;
 use crate::part::LegPart;
-use contracts::contract::Right;
+use contracts::contract::{Kind, Right};
+use contracts::letter::Letter;
 use contracts::plain::{
     PlainContract, PlainLeg, PlainMonth, PlainRoot, PlainUnderlying, Reference, Side, State,
 };
 
-// What a leg trades.
-#[derive(Clone, Copy)]
-enum Kind {
-    Future,
-    Option(Right),
-}
-
-fn side_of(letter: u8) -> Option<Side>
-    ensures { result ≡ side_of letter }
+// What the next letter stands for.
+pub(crate) fn read_letter<L: Letter>(cursor: &mut Cursor, part: LegPart) -> Result<L, LegPart>
+    ensures { Reads (letter L.meaning part) cursor.old result cursor.new }
 {
-    match letter {
-        b'B' => Some(Side::Bought),
-        b'S' => Some(Side::Sold),
-        _ => None,
-    }
-}
-
-fn kind_of(letter: u8) -> Option<Kind>
-    ensures { result ≡ kind_of letter }
-{
-    match letter {
-        b'F' => Some(Kind::Future),
-        b'C' => Some(Kind::Option(Right::Call)),
-        b'P' => Some(Kind::Option(Right::Put)),
-        _ => None,
-    }
-}
-
-fn state_of(letter: u8) -> Option<State>
-    ensures { result ≡ state_of letter }
-{
-    match letter {
-        b'T' => Some(State::Trading),
-        b'A' => Some(State::Auction),
-        b'H' => Some(State::Suspended),
-        b'X' => Some(State::Forbidden),
-        _ => None,
-    }
-}
-
-fn read_side(cursor: &mut Cursor) -> Result<Side, LegPart>
-    ensures { Reads read_side cursor.old.rest.now result cursor.new.rest.now }
-{
-    let letter = cursor.next(LegPart::Side)?;
-    side_of(letter).ok_or(LegPart::Side)
-}
-
-fn read_kind(cursor: &mut Cursor) -> Result<Kind, LegPart>
-    ensures { Reads read_kind cursor.old.rest.now result cursor.new.rest.now }
-{
-    let letter = cursor.next(LegPart::Kind)?;
-    kind_of(letter).ok_or(LegPart::Kind)
-}
-
-pub(crate) fn read_state_letter(cursor: &mut Cursor) -> Result<State, LegPart>
-    ensures { Reads read_state cursor.old.rest.now result cursor.new.rest.now }
-{
-    let letter = cursor.next(LegPart::State)?;
-    state_of(letter).ok_or(LegPart::State)
+    let next = cursor.next(part)?;
+    L::from_letter(next).ok_or(part)
 }
 
 // Any character but a space, `:` and `/`.
 fn read_root_character(cursor: &mut Cursor) -> Result<u8, LegPart>
-    ensures { Reads read_root_character cursor.old.rest.now result cursor.new.rest.now }
+    ensures { Reads read_root_character cursor.old result cursor.new }
 {
-    let character = cursor.next(LegPart::Root)?;
-    if character == b' ' || character == b':' || character == b'/' {
-        return Err(LegPart::Root);
+    match cursor.next(LegPart::Root)? {
+        b' ' | b':' | b'/' => Err(LegPart::Root),
+        character => Ok(character),
     }
-    Ok(character)
 }
 
 fn read_root(cursor: &mut Cursor) -> Result<PlainRoot, LegPart>
-    ensures { Reads read_root cursor.old.rest.now result cursor.new.rest.now }
+    ensures { Reads read_root cursor.old result cursor.new }
 {
     let first = read_root_character(cursor)?;
     let second = read_root_character(cursor)?;
@@ -100,7 +48,7 @@ fn read_root(cursor: &mut Cursor) -> Result<PlainRoot, LegPart>
 
 // Year, `-`, month. Their range is not looked at.
 fn read_month(cursor: &mut Cursor, part: LegPart) -> Result<PlainMonth, LegPart>
-    ensures { Reads (read_month part) cursor.old.rest.now result cursor.new.rest.now }
+    ensures { Reads (read_month part) cursor.old result cursor.new }
 {
     let year = cursor.number(part)?;
     cursor.expect(b'-', part)?;
@@ -110,7 +58,7 @@ fn read_month(cursor: &mut Cursor, part: LegPart) -> Result<PlainMonth, LegPart>
 
 // `@` and a month, or nothing for the spot.
 fn read_underlying(cursor: &mut Cursor) -> Result<PlainUnderlying, LegPart>
-    ensures { Reads read_underlying cursor.old.rest.now result cursor.new.rest.now }
+    ensures { Reads read_underlying cursor.old result cursor.new }
 {
     if !cursor.is_at(b'@') {
         return Ok(PlainUnderlying::Spot);
@@ -126,33 +74,33 @@ fn read_terms(
     root: PlainRoot,
     month: PlainMonth,
 ) -> Result<PlainContract, LegPart>
-    ensures { Reads (read_terms kind root month) cursor.old.rest.now result cursor.new.rest.now }
+    ensures { Reads (read_terms kind root month) cursor.old result cursor.new }
 {
-    match kind {
-        Kind::Future => Ok(PlainContract::Future { root, month }),
-        Kind::Option(right) => {
-            cursor.expect(b':', LegPart::Strike)?;
-            let strike = cursor.number(LegPart::Strike)?;
-            let underlying = read_underlying(cursor)?;
-            Ok(PlainContract::Option {
-                right,
-                root,
-                month,
-                strike,
-                underlying,
-            })
-        }
-    }
+    let right = match kind {
+        Kind::Future => return Ok(PlainContract::Future { root, month }),
+        Kind::Call => Right::Call,
+        Kind::Put => Right::Put,
+    };
+    cursor.expect(b':', LegPart::Strike)?;
+    let strike = cursor.number(LegPart::Strike)?;
+    let underlying = read_underlying(cursor)?;
+    Ok(PlainContract::Option {
+        right,
+        root,
+        month,
+        strike,
+        underlying,
+    })
 }
 
 // `:`, the root, `:`, the kind, `:`, the month, and what else an option has.
 fn read_contract(cursor: &mut Cursor) -> Result<PlainContract, LegPart>
-    ensures { Reads read_contract cursor.old.rest.now result cursor.new.rest.now }
+    ensures { Reads read_contract cursor.old result cursor.new }
 {
     cursor.expect(b':', LegPart::Root)?;
     let root = read_root(cursor)?;
     cursor.expect(b':', LegPart::Kind)?;
-    let kind = read_kind(cursor)?;
+    let kind = read_letter(cursor, LegPart::Kind)?;
     cursor.expect(b':', LegPart::Month)?;
     let month = read_month(cursor, LegPart::Month)?;
     read_terms(cursor, kind, root, month)
@@ -160,7 +108,7 @@ fn read_contract(cursor: &mut Cursor) -> Result<PlainContract, LegPart>
 
 // `/` and a number.
 fn read_field(cursor: &mut Cursor, part: LegPart) -> Result<u32, LegPart>
-    ensures { Reads (read_field part) cursor.old.rest.now result cursor.new.rest.now }
+    ensures { Reads (read_field part) cursor.old result cursor.new }
 {
     cursor.expect(b'/', part)?;
     cursor.number(part)
@@ -168,13 +116,13 @@ fn read_field(cursor: &mut Cursor, part: LegPart) -> Result<u32, LegPart>
 
 // `/` and each of the reference data in turn.
 fn read_own_reference(cursor: &mut Cursor) -> Result<Reference, LegPart>
-    ensures { Reads read_own cursor.old.rest.now result cursor.new.rest.now }
+    ensures { Reads read_own cursor.old result cursor.new }
 {
     let core = read_field(cursor, LegPart::Core)?;
     let lot_size = read_field(cursor, LegPart::LotSize)?;
     let tick = read_field(cursor, LegPart::Tick)?;
     cursor.expect(b'/', LegPart::State)?;
-    let state = read_state_letter(cursor)?;
+    let state = read_letter(cursor, LegPart::State)?;
     let session_end = read_field(cursor, LegPart::SessionEnd)?;
     Ok(Reference {
         core,
@@ -187,7 +135,7 @@ fn read_own_reference(cursor: &mut Cursor) -> Result<Reference, LegPart>
 
 // The reference data, or nothing: then it is the market's.
 fn read_reference(cursor: &mut Cursor, market: &Reference) -> Result<Reference, LegPart>
-    ensures { Reads (read_reference market.now) cursor.old.rest.now result cursor.new.rest.now }
+    ensures { Reads (read_reference market.now) cursor.old result cursor.new }
 {
     if cursor.is_at(b'/') {
         read_own_reference(cursor)
@@ -198,9 +146,9 @@ fn read_reference(cursor: &mut Cursor, market: &Reference) -> Result<Reference, 
 
 // A leg, whatever follows it.
 fn read_parts(cursor: &mut Cursor, market: &Reference) -> Result<PlainLeg, LegPart>
-    ensures { Reads (read_parts market.now) cursor.old.rest.now result cursor.new.rest.now }
+    ensures { Reads (read_parts market.now) cursor.old result cursor.new }
 {
-    let side = read_side(cursor)?;
+    let side = read_letter(cursor, LegPart::Side)?;
     let lots = cursor.number(LegPart::Lots)?;
     let contract = read_contract(cursor)?;
     let reference = read_reference(cursor, market)?;
@@ -218,11 +166,8 @@ pub fn read_leg(text: &[u8], market: &Reference) -> Result<PlainLeg, LegPart>
     ensures spelled { (leg : PlainLeg) → (result ≡ Ok leg → Spells market.now leg text.now) × (Spells market.now leg text.now → result ≡ Ok leg) }
     ensures back { (leg : Leg) → leg.ratio < 2 ^ 32 → text.now ≡ leg_text leg → result ≡ Ok (handed_back market.now leg) }
 {
-    let mut cursor = Cursor { rest: text };
+    let mut cursor = Cursor::new(text);
     let leg = read_parts(&mut cursor, market)?;
-    if cursor.rest.is_empty() {
-        Ok(leg)
-    } else {
-        Err(LegPart::End)
-    }
+    cursor.end()?;
+    Ok(leg)
 }

@@ -1,57 +1,57 @@
 // The words of a line: its longest runs of characters other than spaces.
-ghost use Rattle.std.specs.Prelude.{◌≡◌, ℕ, ◌<◌, ◌≤◌, true, false, [], ◌∷◌, length, MatchOption, ◌≢◌, slice_index};
-ghost use Rattle.notation.specs.Words.{space, words, without, body_of};
+ghost use Rattle.std.specs.Prelude.{◌≡◌, ◌≤◌, length};
+ghost use Rattle.std.specs.Iterator.{YieldsFirstRef, item_count};
+ghost use Rattle.notation.specs.Words.{words, body_of};
 
-// How many characters at the front are spaces, or are none.
-fn run(text: &[u8], of_spaces: bool) -> usize
-    ensures within { result ≤ length text.now }
-    ensures all { (k : ℕ) → k < result → space (slice_index text.now k) ≡ of_spaces }
-    ensures ends { result < length text.now → space (slice_index text.now result) ≢ of_spaces }
-{
-    for (i, c) in text.iter().enumerate() {
-        if (*c == b' ') != of_spaces {
-            return i;
-        }
-    }
-    text.len()
+use std::marker::Model;
+
+// What is left of a line, which a contract reads as its words.
+#[derive(Clone, Drop)]
+pub struct Words<'a> {
+    rest: &'a [u8],
 }
 
-// What is left of a text, of which `next` takes the first word.
-#[derive(Drop)]
-pub struct Words<'a> {
-    pub rest: &'a [u8],
+impl<'a> Model for Words<'a> {
+    ghost use Rattle.std.specs.Prelude.{ℕ, List};
+    ghost use Rattle.notation.specs.Words.{words};
+
+    ghost Value = { List (List ℕ) };
+
+    ghost view = { λ s. words s.rest.now };
 }
 
 impl<'a> Words<'a> {
-    pub fn next(&mut self) -> Option<&'a [u8]>
-        ensures { MatchOption result ((words self.old.rest.now ≡ []) × (self.new.rest.now ≡ self.old.rest.now)) (λ w. (words self.old.rest.now ≡ w.now ∷ words self.new.rest.now) × (length self.new.rest.now < length self.old.rest.now)) }
+    // All the words of a line.
+    #[tactic(auto, using(crate::proofs::Split::words_few))]
+    pub fn new(line: &'a [u8]) -> Words<'a>
+        ensures words { result ≡ words line.now }
+        ensures few { length result ≤ length line.now }
     {
-        let line = self.rest;
-        let (_, text) = line.split_at(run(line, true));
-        let (word, rest) = text.split_at(run(text, false));
-        if word.is_empty() {
-            return None;
-        }
-        self.rest = rest;
-        Some(word)
+        Words { rest: line }
     }
 }
 
-// A text without one character at its end.
-fn strip(text: &[u8], end: u8) -> &[u8]
-    requires { 0 < end }
-    ensures { result.now ≡ without end text.now }
-{
-    let count = text.len();
-    if count > 0 && text[count - 1] == end {
-        return &text[0..count - 1];
+impl<'a> Iterator for Words<'a> {
+    type Item = &'a [u8];
+
+    ghost next_gives = { YieldsFirstRef (λ s. s) };
+
+    ghost remaining = { item_count (λ s. s) };
+
+    fn next(&mut self) -> Option<&'a [u8]> {
+        let start = self.rest.iter().position(|c| *c != b' ')?;
+        let (_, text) = self.rest.split_at(start);
+        let end = text.iter().position(|c| *c == b' ').unwrap_or(text.len());
+        let (word, rest) = text.split_at(end);
+        self.rest = rest;
+        Some(word)
     }
-    text
 }
 
 // A line without its line feed and the carriage return before it, if it has them.
 pub fn body(line: &[u8]) -> &[u8]
     ensures { result.now ≡ body_of line.now }
 {
-    strip(strip(line, b'\n'), b'\r')
+    let line = line.strip_suffix(b"\n").unwrap_or(line);
+    line.strip_suffix(b"\r").unwrap_or(line)
 }

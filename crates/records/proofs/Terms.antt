@@ -6,7 +6,7 @@ use Rattle.catalogue.specs.declared.strategy.StrategyType.{StrategyType}
 use Rattle.contracts.specs.declared.plain.Side.{Side}
 use Rattle.contracts.specs.declared.plain.Side.TheVariants.{Bought, Sold}
 use Rattle.notation.specs.LegReading.{whole}
-use Rattle.notation.specs.Letters.{side_text}
+use Rattle.contracts.specs.Letters.{side_text}
 use Rattle.notation.specs.Reading.{number}
 use Rattle.notation.specs.Spelling.{Number}
 use Rattle.notation.specs.declared.part.LegPart.TheVariants.{Lots}
@@ -19,8 +19,8 @@ use Rattle.sheet.specs.declared.record.Comparison.TheVariants.{Before, Same, Aft
 use Rattle.sheet.specs.declared.record.Relation.{Relation}
 use Rattle.sheet.specs.declared.record.Relation.TheVariants.{Compare, EvenSteps}
 use Rattle.sheet.specs.declared.record.Role.{Role}
-use Rattle.sheet.specs.declared.record.RoleKind.{RoleKind}
-use Rattle.sheet.specs.declared.record.RoleKind.TheVariants.{Future, Call, Put}
+use Rattle.contracts.specs.declared.contract.Kind.{Kind}
+use Rattle.contracts.specs.declared.contract.Kind.TheVariants.{Future, Call, Put}
 use Rattle.records.specs.Letters.{mark_text, kind_text, aspect_text, comparison_text}
 use Rattle.records.specs.Spelling.{RoleSpelled, RelationSpelled}
 use Rattle.records.specs.Terms.{and_then, first, only, digits_of, after_digits, numeral, number_front, read_type, mark_of, read_mark, side_of, kind_of, aspect_of, comparison_of, role_on, read_role, compared, stepped, relation_on, read_relation}
@@ -59,7 +59,7 @@ mark_letter c b e = meant mark_text c 77 true b _ refl e (λ e. meant mark_text 
 side_letter : (c : ℕ) (side : Side) → side_of c ≡ Some side → side_text side ≡ c ∷ []
 side_letter c side e = meant side_text c 66 Bought side _ refl e (λ e. meant side_text c 83 Sold side _ refl e (λ e. absurd (none_not_some e)))
 
-kind_letter : (c : ℕ) (kind : RoleKind) → kind_of c ≡ Some kind → kind_text kind ≡ c ∷ []
+kind_letter : (c : ℕ) (kind : Kind) → kind_of c ≡ Some kind → kind_text kind ≡ c ∷ []
 kind_letter c kind e =
     meant kind_text c 70 Future kind _ refl e
     (λ e. meant kind_text c 67 Call kind _ refl e (λ e. meant kind_text c 80 Put kind _ refl e (λ e. absurd (none_not_some e))))
@@ -129,20 +129,20 @@ role_past word role e =
     first_past word a.0 a.1 ∙ ap (λ (t : List ℕ). t ++ a.0.1) (sym (side_letter a.0.0 s.0 s.1)) in
     subst (RoleSpelled role) (sym is) (on_past s.0 a.0.1 role s.2)
 
-kind_stops : (kind : RoleKind) → Stops (kind_text kind)
+kind_stops : (kind : Kind) → Stops (kind_text kind)
 kind_stops Future = refl
 kind_stops Call = refl
 kind_stops Put = refl
 
-kind_end : (side : Side) (n : ℕ) (kind : RoleKind) → and_then {Y = Role} (only (kind_text kind)) (λ (letter : ℕ). and_then {Y = Role} (kind_of letter) (λ (k : RoleKind). Some (record { side = side; ratio = n; kind = k }))) ≡ Some (record { side = side; ratio = n; kind = kind })
+kind_end : (side : Side) (n : ℕ) (kind : Kind) → and_then {Y = Role} (only (kind_text kind)) (λ (letter : ℕ). and_then {Y = Role} (kind_of letter) (λ (k : Kind). Some (record { side = side; ratio = n; kind = k }))) ≡ Some (record { side = side; ratio = n; kind = kind })
 kind_end side n Future = refl
 kind_end side n Call = refl
 kind_end side n Put = refl
 
-on_at : (side : Side) (n : ℕ) (kind : RoleKind) (d : List ℕ) → Number n d → role_on side (d ++ kind_text kind) ≡ Some (record { side = side; ratio = n; kind = kind })
+on_at : (side : Side) (n : ℕ) (kind : Kind) (d : List ℕ) → Number n d → role_on side (d ++ kind_text kind) ≡ Some (record { side = side; ratio = n; kind = kind })
 on_at side n kind d h = rw (front_at n d (kind_text kind) h (kind_stops kind)) (kind_end side n kind)
 
-role_from : (side : Side) (n : ℕ) (kind : RoleKind) (d : List ℕ) → Number n d → read_role (side_text side ++ (d ++ kind_text kind)) ≡ Some (record { side = side; ratio = n; kind = kind })
+role_from : (side : Side) (n : ℕ) (kind : Kind) (d : List ℕ) → Number n d → read_role (side_text side ++ (d ++ kind_text kind)) ≡ Some (record { side = side; ratio = n; kind = kind })
 role_from Bought n kind d h = on_at Bought n kind d h
 role_from Sold n kind d h = on_at Sold n kind d h
 

@@ -5,7 +5,7 @@ use Rattle.std.proofs.lemmas.Fmt.{decimal_nonempty, digits_decimal, digits_value
 use Rattle.std.proofs.lemmas.Bool.{cond-true, cond-false, ne_eqb}
 use Rattle.contracts.specs.declared.plain.Side.{Side}
 use Rattle.contracts.specs.declared.plain.Side.TheVariants.{Bought, Sold}
-use Rattle.notation.specs.Letters.{side_text}
+use Rattle.contracts.specs.Letters.{side_text}
 use Rattle.notation.specs.Spelling.{Digits, number_after, Number}
 use Rattle.notation.specs.Words.{space, onto, words}
 use Rattle.sheet.specs.Rules.{Rule}
@@ -17,8 +17,8 @@ use Rattle.sheet.specs.declared.record.Record.{Record}
 use Rattle.sheet.specs.declared.record.Relation.{Relation}
 use Rattle.sheet.specs.declared.record.Relation.TheVariants.{Compare, EvenSteps}
 use Rattle.sheet.specs.declared.record.Role.{Role}
-use Rattle.sheet.specs.declared.record.RoleKind.{RoleKind}
-use Rattle.sheet.specs.declared.record.RoleKind.TheVariants.{Future, Call, Put}
+use Rattle.contracts.specs.declared.contract.Kind.{Kind}
+use Rattle.contracts.specs.declared.contract.Kind.TheVariants.{Future, Call, Put}
 use Rattle.records.specs.Letters.{mark_text, kind_text, aspect_text, comparison_text}
 use Rattle.records.specs.Reading.{ReadAs}
 use Rattle.records.specs.Spelling.{RelationSpelled, RolesSpelled, RelationsSpelled, RecordSpelled}
@@ -87,7 +87,7 @@ spaced_words text (x ∷ xs) behind h b =
     ∙ ap (λ (ws : List (List ℕ)). text x ∷ ws) (spaced_words text xs behind h.1 b)
 
 -- the texts of roles and relations are words
-kind_solid : (kind : RoleKind) → Solid (kind_text kind)
+kind_solid : (kind : Kind) → Solid (kind_text kind)
 kind_solid Future = (refl, tt)
 kind_solid Call = (refl, tt)
 kind_solid Put = (refl, tt)

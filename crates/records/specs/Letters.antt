@@ -1,7 +1,7 @@
 -- The letters of a record's text. Assumes nothing.
 use Rattle.std.specs.Prelude.{ℕ, Bool, true, false, List, codes}
-use Rattle.sheet.specs.declared.record.RoleKind.{RoleKind}
-use Rattle.sheet.specs.declared.record.RoleKind.TheVariants.{Future, Call, Put}
+use Rattle.contracts.specs.declared.contract.Kind.{Kind}
+use Rattle.contracts.specs.declared.contract.Kind.TheVariants.{Future, Call, Put}
 use Rattle.sheet.specs.declared.record.Aspect.{Aspect}
 use Rattle.sheet.specs.declared.record.Aspect.TheVariants.{Strike, Month}
 use Rattle.sheet.specs.declared.record.Comparison.{Comparison}
@@ -13,7 +13,7 @@ mark_text true = codes "M"
 mark_text false = codes "-"
 
 -- what a role trades
-abbrev pub kind_text : RoleKind → List ℕ
+abbrev pub kind_text : Kind → List ℕ
 kind_text Future = codes "F"
 kind_text Call = codes "C"
 kind_text Put = codes "P"

@@ -1,6 +1,6 @@
 -- Which words spell which record. `codes` is a text that is written out. Assumes nothing.
 use Rattle.std.specs.Prelude.{◌≡◌, ℕ, List, [], ◌∷◌, ◌++◌, Ok, Err, codes, Result}
-use Rattle.notation.specs.Letters.{side_text}
+use Rattle.contracts.specs.Letters.{side_text}
 use Rattle.notation.specs.Spelling.{Number}
 use Rattle.sheet.specs.Rules.{Rule, rule_of}
 use Rattle.sheet.specs.declared.record.Record.{Record}

@@ -14,8 +14,8 @@ use Rattle.sheet.specs.declared.record.Comparison.TheVariants.{Before, Same, Aft
 use Rattle.sheet.specs.declared.record.Relation.{Relation}
 use Rattle.sheet.specs.declared.record.Relation.TheVariants.{Compare, EvenSteps}
 use Rattle.sheet.specs.declared.record.Role.{Role}
-use Rattle.sheet.specs.declared.record.RoleKind.{RoleKind}
-use Rattle.sheet.specs.declared.record.RoleKind.TheVariants.{Future, Call, Put}
+use Rattle.contracts.specs.declared.contract.Kind.{Kind}
+use Rattle.contracts.specs.declared.contract.Kind.TheVariants.{Future, Call, Put}
 
 -- one part after another
 abbrev pub and_then : {X Y : Type 0} → Option X → (X → Option Y) → Option Y
@@ -71,7 +71,7 @@ abbrev pub side_of : ℕ → Option Side
 side_of c = cond (c == 66) (Some Bought) (cond (c == 83) (Some Sold) None)
 
 -- F, C or P
-abbrev pub kind_of : ℕ → Option RoleKind
+abbrev pub kind_of : ℕ → Option Kind
 kind_of c = cond (c == 70) (Some Future) (cond (c == 67) (Some Call) (cond (c == 80) (Some Put) None))
 
 -- s or m

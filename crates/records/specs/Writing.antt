@@ -1,6 +1,6 @@
 -- The text of a record. Assumes nothing.
 use Rattle.std.specs.Prelude.{◌≡◌, ℕ, ◌^◌, ◌<◌, false, List, [], ◌∷◌, ◌++◌, Ok, Err, codes, decimal, Result, ◌≢◌}
-use Rattle.notation.specs.Letters.{side_text}
+use Rattle.contracts.specs.Letters.{side_text}
 use Rattle.notation.specs.Words.{space}
 use Rattle.sheet.specs.Rules.{Rule, rule_of}
 use Rattle.sheet.specs.declared.record.Record.{Record}

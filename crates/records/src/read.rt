@@ -17,8 +17,8 @@ use std::alloc::{AllocError, Global};
 
 // The first word.
 fn type_field(rest: &mut Words) -> Result<StrategyType, RecordTrouble>
-    ensures reads { Reads (field read_type 1 part.«Type») (words rest.old.rest.now) result (words rest.new.rest.now) }
-    ensures shorter { length rest.new.rest.now ≤ length rest.old.rest.now }
+    ensures reads { Reads (field read_type 1 part.«Type») rest.old result rest.new }
+    ensures shorter { length rest.new ≤ length rest.old }
 {
     match rest.next() {
         Some(word) => match read_type(word) {
@@ -37,8 +37,8 @@ fn type_field(rest: &mut Words) -> Result<StrategyType, RecordTrouble>
 
 // The second word.
 fn mark_field(rest: &mut Words) -> Result<bool, RecordTrouble>
-    ensures reads { Reads (field read_mark 2 part.Mark) (words rest.old.rest.now) result (words rest.new.rest.now) }
-    ensures shorter { length rest.new.rest.now ≤ length rest.old.rest.now }
+    ensures reads { Reads (field read_mark 2 part.Mark) rest.old result rest.new }
+    ensures shorter { length rest.new ≤ length rest.old }
 {
     match rest.next() {
         Some(word) => match read_mark(word) {
@@ -57,37 +57,34 @@ fn mark_field(rest: &mut Words) -> Result<bool, RecordTrouble>
 
 // The roles at the front. The first word that is none is left, since it may be a relation.
 fn read_roles(heap: Global, rest: &mut Words) -> Result<Vec<Role>, AllocError>
-    ensures taken { IfOk result (λ v. take_roles (words rest.old.rest.now) ≡ (v.items, words rest.new.rest.now)) }
-    ensures few { IfOk result (λ v. vec_len v + length rest.new.rest.now ≤ length rest.old.rest.now) }
+    ensures taken { IfOk result (λ v. take_roles rest.old ≡ (v.items, rest.new)) }
+    ensures few { IfOk result (λ v. vec_len v + length rest.new ≤ length rest.old) }
 {
     let mut roles = Vec::new(heap);
-    let mut ahead = Words { rest: rest.rest };
-    while let Some(word) = ahead.next() {
+    for word in rest.clone()? {
         let Some(role) = read_role(word) else {
-            return Ok(roles);
+            break;
         };
         roles.push(role)?;
-        rest.rest = ahead.rest;
+        rest.next();
     }
     Ok(roles)
 }
 
 // Each word is a relation; `start` is the number of the first.
 fn read_relations(heap: Global, rest: &mut Words, start: usize) -> Result<Vec<Relation>, Unread>
-    requires { start + length rest.old.rest.now < 2 ^ 64 }
-    ensures { Told vec_items (read_relations start (words rest.old.rest.now)) result }
+    requires { start + length rest.old < 2 ^ 64 }
+    ensures { Told vec_items (read_relations start rest.old) result }
 {
     let mut relations = Vec::new(heap);
-    let mut number = start;
-    while let Some(word) = rest.next() {
+    for (i, word) in rest.enumerate() {
         let Some(relation) = read_relation(word) else {
             return Err(Unread::Trouble(RecordTrouble {
-                word: number,
+                word: start + i,
                 part: RecordPart::Term,
             }));
         };
         relations.push(relation)?;
-        number += 1;
     }
     Ok(relations)
 }
@@ -96,7 +93,7 @@ fn read_relations(heap: Global, rest: &mut Words, start: usize) -> Result<Vec<Re
 fn read_words(heap: Global, text: &[u8]) -> Result<Record, Unread>
     ensures { Told rule_of (read_words (words text.now)) result }
 {
-    let mut rest = Words { rest: text };
+    let mut rest = Words::new(text);
     let strategy = type_field(&mut rest)?;
     let marked = mark_field(&mut rest)?;
     let roles = read_roles(heap, &mut rest)?;

@@ -4,10 +4,11 @@ ghost use Rattle.notation.specs.Reading.{digit};
 ghost use Rattle.records.specs.Terms.{first, only, digits_of, after_digits, numeral, number_front, read_type, mark_of, read_mark, side_of, kind_of, aspect_of, comparison_of, role_on, read_role, compared, stepped, relation_on, read_relation};
 
 use catalogue::strategy::StrategyType;
+use contracts::contract::Kind;
 use contracts::plain::Side;
 use notation::field::read_number;
 use notation::part::LegPart;
-use sheet::record::{Aspect, Comparison, Relation, Role, RoleKind};
+use sheet::record::{Aspect, Comparison, Relation, Role};
 
 // The first character, and the rest.
 fn take_first(text: &[u8]) -> Option<(u8, &[u8])>
@@ -103,13 +104,13 @@ fn side_of(letter: u8) -> Option<Side>
     }
 }
 
-fn kind_of(letter: u8) -> Option<RoleKind>
+fn kind_of(letter: u8) -> Option<Kind>
     ensures { result ≡ kind_of letter }
 {
     match letter {
-        b'F' => Some(RoleKind::Future),
-        b'C' => Some(RoleKind::Call),
-        b'P' => Some(RoleKind::Put),
+        b'F' => Some(Kind::Future),
+        b'C' => Some(Kind::Call),
+        b'P' => Some(Kind::Put),
         _ => None,
     }
 }

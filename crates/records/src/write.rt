@@ -1,12 +1,13 @@
 // The text of a record.
 ghost use Rattle.std.specs.Prelude.{◌≡◌, ◌++◌, IfOk, string_bytes, codes};
-ghost use Rattle.notation.specs.Letters.{side_text};
+ghost use Rattle.contracts.specs.Letters.{side_text};
 ghost use Rattle.sheet.specs.Rules.{rule_of};
 ghost use Rattle.records.specs.Letters.{mark_text, kind_text, aspect_text, comparison_text};
 ghost use Rattle.records.specs.Writing.{role_text, relation_text, spaced, behind_type, record_text};
 
+use contracts::contract::Kind;
 use contracts::plain::Side;
-use sheet::record::{Aspect, Comparison, Record, Relation, Role, RoleKind};
+use sheet::record::{Aspect, Comparison, Record, Relation, Role};
 use std::alloc::{AllocError, Global};
 
 fn mark_text(marked: bool) -> &'static str
@@ -24,13 +25,13 @@ fn side_text(side: Side) -> &'static str
     }
 }
 
-fn kind_text(kind: RoleKind) -> &'static str
+fn kind_text(kind: Kind) -> &'static str
     ensures { result.now ≡ kind_text kind }
 {
     match kind {
-        RoleKind::Future => "F",
-        RoleKind::Call => "C",
-        RoleKind::Put => "P",
+        Kind::Future => "F",
+        Kind::Call => "C",
+        Kind::Put => "P",
     }
 }
 

@@ -3,4 +3,3 @@ pub mod Keeping
 pub mod Printed
 pub mod Ratios
 pub mod Saying
-pub mod Split

@@ -5,7 +5,7 @@ use Rattle.contracts.specs.declared.plain.PlainLeg.{PlainLeg}
 use Rattle.contracts.specs.declared.plain.Reference.{Reference}
 use Rattle.contracts.specs.declared.plain.State.{State}
 use Rattle.notation.specs.LegReading.{whole, read_state, read_leg}
-use Rattle.notation.specs.Letters.{state_text}
+use Rattle.contracts.specs.Letters.{state_text}
 use Rattle.notation.specs.Reading.{number}
 use Rattle.notation.specs.Spelling.{Number}
 use Rattle.notation.specs.declared.part.LegPart.{LegPart}

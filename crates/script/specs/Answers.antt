@@ -9,7 +9,7 @@ use Rattle.tickets.specs.declared.fault.Fault.{Fault}
 use Rattle.tickets.specs.declared.refusal.TicketRefusal.{TicketRefusal}
 use Rattle.script.specs.Lines.{Reading, passed, market, ticket, unreadable, LineReads}
 use Rattle.script.specs.Says.{Says}
-use Rattle.script.specs.Words.{words, body_of}
+use Rattle.notation.specs.Words.{words, body_of}
 use Rattle.script.specs.declared.answer.Answer.{Answer}
 use Rattle.script.specs.declared.answer.Answer.TheVariants as answer
 

@@ -3,4 +3,3 @@ pub mod Kept
 pub mod Lines
 pub mod Says
 pub mod Texts
-pub mod Words

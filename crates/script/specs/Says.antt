@@ -2,7 +2,7 @@
 use Rattle.std.specs.Prelude.{◌≡◌, ℕ, List, [], ◌∷◌, codes, slice_index}
 use Rattle.contracts.specs.declared.plain.PlainLeg.{PlainLeg}
 use Rattle.contracts.specs.declared.plain.Reference.{Reference}
-use Rattle.notation.specs.Letters.{state_text}
+use Rattle.contracts.specs.Letters.{state_text}
 use Rattle.notation.specs.Spelling.{Number, Spells}
 use Rattle.script.specs.Lines.{Reading, passed, market, ticket, unreadable, kept_of, LineReads}
 

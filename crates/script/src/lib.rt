@@ -8,4 +8,3 @@ pub mod line;
 mod read;
 pub mod session;
 pub mod text;
-mod words;

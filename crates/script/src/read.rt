@@ -1,19 +1,19 @@
 // A line of the script from its words.
-ghost use Rattle.std.specs.Prelude.{◌≡◌, [], Decides, slice_index};
-ghost use Rattle.script.specs.Words.{words, body_of};
+ghost use Rattle.std.specs.Prelude.{◌≡◌, ◌^◌, ◌<◌, [], length, Decides, slice_index};
+ghost use Rattle.notation.specs.Words.{words, body_of};
 ghost use Rattle.script.specs.Says.{LineSays};
 ghost use Rattle.script.specs.Lines.{Reads, number_field, state_field, minute_field, ended, read_market, ticket_after, read_ticket, Names, LineKept, kept_of, meaning};
 
 use crate::legs::LegRow;
 use crate::line::{Call, Line, Trouble, What};
-use crate::words::{Words, body};
 use contracts::plain::{Reference, State};
 use notation::field::{read_number, read_state};
 use notation::part::LegPart;
 use notation::read::read_leg;
+use notation::words::{Words, body};
 
 fn number_field(rest: &mut Words, word: usize, part: LegPart) -> Result<u32, Trouble>
-    ensures { Reads (number_field word part) (words rest.old.rest.now) result (words rest.new.rest.now) }
+    ensures { Reads (number_field word part) rest.old result rest.new }
 {
     match rest.next() {
         Some(text) => match read_number(text, part) {
@@ -31,7 +31,7 @@ fn number_field(rest: &mut Words, word: usize, part: LegPart) -> Result<u32, Tro
 }
 
 fn state_field(rest: &mut Words, word: usize) -> Result<State, Trouble>
-    ensures { Reads (state_field word) (words rest.old.rest.now) result (words rest.new.rest.now) }
+    ensures { Reads (state_field word) rest.old result rest.new }
 {
     match rest.next() {
         Some(text) => match read_state(text) {
@@ -50,7 +50,7 @@ fn state_field(rest: &mut Words, word: usize) -> Result<State, Trouble>
 
 // Refuses a word that follows.
 fn end(rest: &mut Words, word: usize) -> Result<(), Trouble>
-    ensures { Reads (ended word) (words rest.old.rest.now) result (words rest.new.rest.now) }
+    ensures { Reads (ended word) rest.old result rest.new }
 {
     match rest.next() {
         Some(_) => Err(Trouble {
@@ -62,7 +62,7 @@ fn end(rest: &mut Words, word: usize) -> Result<(), Trouble>
 }
 
 fn read_market(rest: &mut Words) -> Result<Reference, Trouble>
-    ensures { result ≡ read_market (words rest.old.rest.now) }
+    ensures { result ≡ read_market rest.old }
 {
     let core = number_field(rest, 2, LegPart::Core)?;
     let lot_size = number_field(rest, 3, LegPart::LotSize)?;
@@ -80,7 +80,7 @@ fn read_market(rest: &mut Words) -> Result<Reference, Trouble>
 }
 
 fn minute_field(rest: &mut Words) -> Result<u32, Trouble>
-    ensures { Reads minute_field (words rest.old.rest.now) result (words rest.new.rest.now) }
+    ensures { Reads minute_field rest.old result rest.new }
 {
     match rest.next() {
         Some(text) => match read_number(text, LegPart::End) {
@@ -98,25 +98,25 @@ fn minute_field(rest: &mut Words) -> Result<u32, Trouble>
 }
 
 fn read_legs(rest: &mut Words, market: &Reference, minute: u32) -> Line
-    ensures { meaning result ≡ kept_of (ticket_after market.now minute [] (words rest.old.rest.now)) }
+    requires { length rest.old < 2 ^ 63 }
+    ensures { meaning result ≡ kept_of (ticket_after market.now minute [] rest.old) }
 {
     let mut legs = LegRow::new();
-    let mut word = 3;
-    while let Some(text) = rest.next() {
+    for (i, text) in rest.enumerate() {
         match read_leg(text, market) {
             Ok(leg) => legs.keep(leg),
             Err(part) => return Line::Unreadable(Trouble {
-                word,
+                word: i + 3,
                 what: What::Part(part),
             }),
         }
-        word += 1;
     }
     Line::Ticket { minute, legs }
 }
 
 fn read_ticket(rest: &mut Words, market: &Reference) -> Line
-    ensures { meaning result ≡ kept_of (read_ticket market.now (words rest.old.rest.now)) }
+    requires { length rest.old < 2 ^ 63 }
+    ensures { meaning result ≡ kept_of (read_ticket market.now rest.old) }
 {
     match minute_field(rest) {
         Ok(minute) => read_legs(rest, market, minute),
@@ -153,7 +153,7 @@ fn call_of(word: &[u8]) -> Call
 fn line_of(line: &[u8], market: &Reference) -> Line
     ensures { LineKept market.now (words (body_of line.now)) (meaning result) }
 {
-    let mut rest = Words { rest: body(line) };
+    let mut rest = Words::new(body(line));
     let Some(word) = rest.next() else {
         return Line::PassedOver;
     };

@@ -1,5 +1,5 @@
 -- A sheet of given records has one outcome. Assumes nothing.
-use Rattle.std.proofs.Common.{◌≡◌, ℕ, ◌-◌, ◌<◌, ◌≤◌, List, [], ◌∷◌, length, take, Err, Result, refl, ap, subst, ⊎_elim, arith, length-take}
+use Rattle.std.proofs.Common.{◌≡◌, ℕ, ◌-◌, ◌<◌, List, [], ◌∷◌, length, take, Ok, Err, Result, refl, ap, subst, ⊎_elim, arith, length-take}
 use Rattle.std.specs.List.{AllByRecursion}
 use Rattle.std.proofs.ByRecursion.{All-get_or}
 use Rattle.std.proofs.lemmas.List.{get_or-take}
@@ -37,18 +37,15 @@ same_first rules m n f g =
 abbrev refused_at : ℕ → Result Sheet CatalogueRefusal
 refused_at n = Err (OutOfForm n)
 
--- few records that are all in form meet no refusal
-pub not_refused : (rules : List Rule) → AllByRecursion InForm rules → length rules ≤ 64 → (e : CatalogueRefusal) → SheetOf rules (Err e) → ⊥
-not_refused rules a few (OutOfForm n) t = never_first rules n a t
-not_refused rules a few TooManyRecords t = let many = t.1 in absurd (omega arith)
-not_refused rules a few NoEntryFits t = t
-
--- a refusal that is met is the only one
-pub settled : (rules : List Rule) (d : CatalogueRefusal) → SheetOf rules (Err d) → (e : CatalogueRefusal) → SheetOf rules (Err e) → ◌≡◌ {A = Result Sheet CatalogueRefusal} (Err d) (Err e)
-settled rules (OutOfForm m) s (OutOfForm n) t = ap refused_at (same_first rules m n s t)
-settled rules (OutOfForm m) s TooManyRecords t = absurd (never_first rules m t.0 s)
-settled rules (OutOfForm m) s NoEntryFits t = absurd t
-settled rules TooManyRecords s (OutOfForm n) t = absurd (never_first rules n s.0 t)
-settled rules TooManyRecords s TooManyRecords t = refl
-settled rules TooManyRecords s NoEntryFits t = absurd t
-settled rules NoEntryFits s e t = absurd s
+-- where a refusal is met, it is the outcome
+pub settled : (rules : List Rule) (r : Result Sheet CatalogueRefusal) → SheetOf rules r → (e : CatalogueRefusal) → SheetOf rules (Err e) → r ≡ Err e
+settled rules (Ok sheet) s (OutOfForm n) t = absurd (never_first rules n s.in_form t)
+settled rules (Ok sheet) s TooManyRecords t = let few = s.few in let many = t.1 in absurd (omega arith)
+settled rules (Ok sheet) s NoEntryFits t = absurd t
+settled rules (Err (OutOfForm m)) s (OutOfForm n) t = ap refused_at (same_first rules m n s t)
+settled rules (Err (OutOfForm m)) s TooManyRecords t = absurd (never_first rules m t.0 s)
+settled rules (Err (OutOfForm m)) s NoEntryFits t = absurd t
+settled rules (Err TooManyRecords) s (OutOfForm n) t = absurd (never_first rules n s.0 t)
+settled rules (Err TooManyRecords) s TooManyRecords t = refl
+settled rules (Err TooManyRecords) s NoEntryFits t = absurd t
+settled rules (Err NoEntryFits) s e t = absurd s

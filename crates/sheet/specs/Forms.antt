@@ -1,6 +1,7 @@
 -- Which records are in form. Assumes nothing.
-use Rattle.std.specs.Prelude.{◌≡◌, ℕ, ◌≤◌, Bool, true, not, ◌&&◌, List, [], ◌∷◌, length, ◌==◌, ◌≢◌, nat_le}
-use Rattle.std.specs.List.{AllByRecursion}
+use Rattle.std.specs.Prelude.{◌≡◌, ℕ, ◌≤◌, true, List, length, ◌≢◌}
+use Rattle.std.specs.List.{AllByRecursion, AllByRecursion-prop}
+use Rattle.std.proofs.Props.{props}
 use Rattle.contracts.specs.Ranges.{code_character}
 use Rattle.sheet.specs.Rules.{Rule}
 use Rattle.sheet.specs.declared.record.Relation.{Relation}
@@ -30,34 +31,13 @@ pub record InForm (rule : Rule) : Type 0 where
   pub six_relations : length rule.relations ≤ 6
   pub own_roles : AllByRecursion (RelationInForm (length rule.roles)) rule.relations
 
--- a yes or no passes everywhere in a list
-abbrev pub everywhere : {X : Type 0} → (X → Bool) → List X → Bool
-everywhere test [] = true
-everywhere test (x ∷ xs) = test x && everywhere test xs
+-- a record is in form in one way at most, so a sheet is no more than its records
+RelationInForm-prop : (count : ℕ) (x : Relation) → IsProp (RelationInForm count x)
+RelationInForm-prop count (Compare aspect first comparison second) = Prim.hlevel props
+RelationInForm-prop count (EvenSteps aspect first second third) = Prim.hlevel props
 
--- the same as yes or no
-abbrev pub ratio_formed : Role → Bool
-ratio_formed role = nat_le 1 role.ratio && nat_le role.ratio 9
+pub InForm-prop : (rule : Rule) → IsProp (InForm rule)
+InForm-prop rule = Prim.hlevel (props, RelationInForm-prop)
 
-abbrev pub names_role : ℕ → ℕ → Bool
-names_role count k = nat_le 1 k && nat_le k count
-
-abbrev pub differ : ℕ → ℕ → Bool
-differ a b = not (a == b)
-
-abbrev pub relation_formed : ℕ → Relation → Bool
-relation_formed count (Compare aspect first comparison second) = (names_role count first && names_role count second) && differ first second
-relation_formed count (EvenSteps aspect first second third) =
-    ((names_role count first && names_role count second) && names_role count third) && ((differ first second && differ first third) && differ second third)
-
-abbrev pub type_formed : Rule → Bool
-type_formed rule = code_character rule.strategy.first && code_character rule.strategy.second
-
-abbrev pub roles_formed : List Role → Bool
-roles_formed roles = (nat_le 2 (length roles) && nat_le (length roles) 4) && everywhere ratio_formed roles
-
-abbrev pub relations_formed : ℕ → List Relation → Bool
-relations_formed count relations = nat_le (length relations) 6 && everywhere (relation_formed count) relations
-
-abbrev pub formed : Rule → Bool
-formed rule = (type_formed rule && roles_formed rule.roles) && relations_formed (length rule.roles) rule.relations
+pub all_in_form-prop : (rules : List Rule) → IsProp (AllByRecursion InForm rules)
+all_in_form-prop rules = AllByRecursion-prop InForm InForm-prop rules

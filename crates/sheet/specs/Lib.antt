@@ -4,7 +4,5 @@ pub mod Meets
 pub mod Meaning
 pub mod Sheets
 pub mod Read
-pub mod Everywhere
-pub mod Formed
 pub mod Meeting
 pub mod Even

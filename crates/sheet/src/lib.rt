@@ -3,6 +3,7 @@
 
 mod fit;
 mod form;
+mod formed;
 pub mod make;
 pub mod record;
 pub mod sheet;

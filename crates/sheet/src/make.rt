@@ -1,18 +1,15 @@
 // Making a sheet from records of any content, and what it answers as a catalogue.
-ghost use Rattle.std.specs.Prelude.{◌≡◌, ◌+◌, ◌^◌, ◌<◌, ◌≤◌, true, [], map, length, Err, Decides, MatchOption};
-ghost use Rattle.std.specs.List.{AllWithin};
+ghost use Rattle.std.specs.Prelude.{◌≡◌, ◌+◌, ◌≤◌, [], map, length, Err, MatchOption, MatchResult};
+ghost use Rattle.std.specs.List.{AllByRecursion};
+ghost use Rattle.sheet.specs.Forms.{InForm};
 ghost use Rattle.catalogue.specs.Entries.{no_entry, numbered};
 ghost use Rattle.catalogue.specs.declared.refusal.CatalogueRefusal.{CatalogueRefusal};
-ghost use Rattle.catalogue.specs.declared.refusal.CatalogueRefusal.TheVariants.{OutOfForm};
-ghost use Rattle.sheet.specs.Forms.{InForm, formed};
 ghost use Rattle.sheet.specs.Meaning.{meaning};
 ghost use Rattle.sheet.specs.Rules.{rule_of};
-ghost use Rattle.sheet.specs.Sheets.{SheetOf, FirstOutOfForm, entries_of};
-ghost use Rattle.std.proofs.Common.{arith};
-ghost use Rattle.sheet.specs.Read.{length_entries, sound_typed, sound_sized};
+ghost use Rattle.sheet.specs.Sheets.{FirstOutOfForm, SheetOf, entries_of};
+ghost use Rattle.sheet.specs.Read.{few_entries, all_typed, all_sized};
 
-use crate::fit::fits_record;
-use crate::form::in_form;
+use crate::formed::FormedRecord;
 use crate::record::Record;
 use crate::sheet::Sheet;
 use catalogue::catalogue::Catalogue;
@@ -24,29 +21,25 @@ use std::alloc::Global;
 // The place of the first record that is out of form, from 0.
 fn first_out_of_form(records: &[Record]) -> Option<usize>
     ensures { MatchOption result
-        (AllWithin (λ x. InForm (rule_of x)) records.now 0 (length records.now))
+        (AllByRecursion InForm (map rule_of records.now))
         (λ i. FirstOutOfForm (map rule_of records.now) (i + 1)) }
 {
-    for i in 0..records.len() {
-        if !in_form(&records[i]) {
-            return Some(i);
-        }
+    records.iter().position(|record| !record.in_form())
+}
+
+// A record out of form is told before there being too many. Records are numbered from 1.
+fn refuse(records: &[Record]) -> Result<(), CatalogueRefusal>
+    ensures { MatchResult result
+        (λ _. AllByRecursion InForm (map rule_of records.now) × (length (map rule_of records.now) ≤ 64))
+        (λ e. SheetOf (map rule_of records.now) (Err e)) }
+{
+    if let Some(place) = first_out_of_form(records) {
+        return Err(CatalogueRefusal::OutOfForm { record: place + 1 });
     }
-    None
-}
-
-// Records are numbered from 1.
-fn out_of_form(place: usize) -> CatalogueRefusal
-    requires { place + 1 < 2 ^ 64 }
-    ensures { result ≡ OutOfForm (place + 1) }
-{
-    CatalogueRefusal::OutOfForm { record: place + 1 }
-}
-
-fn few_enough(count: usize) -> bool
-    ensures { Decides result (count ≤ 64) }
-{
-    count <= 64
+    if records.len() > 64 {
+        return Err(CatalogueRefusal::TooManyRecords);
+    }
+    Ok(())
 }
 
 impl Sheet {
@@ -54,12 +47,7 @@ impl Sheet {
         ensures outcome { SheetOf (map rule_of records.items) result }
         ensures refused { (e : CatalogueRefusal) → SheetOf (map rule_of records.items) (Err e) → result ≡ Err e }
     {
-        if let Some(place) = first_out_of_form(&records) {
-            return Err(out_of_form(place));
-        }
-        if !few_enough(records.len()) {
-            return Err(CatalogueRefusal::TooManyRecords);
-        }
+        refuse(&records)?;
         Ok(Sheet { records })
     }
 
@@ -73,57 +61,46 @@ impl Sheet {
     }
 
     // The record of an entry, or none for 0 and beyond the count.
-    fn record_of(&self, entry: usize) -> Option<&Record>
+    #[tactic(auto, using(crate::specs::Read::numbered_at, crate::specs::Read::in_form_at))]
+    fn record_of(&self, entry: usize) -> Option<FormedRecord<'_>>
         ensures { MatchOption result
             (numbered (entries_of self.now) entry ≡ no_entry)
-            (λ x. (numbered (entries_of self.now) entry ≡ meaning (rule_of x.now)) × (formed (rule_of x.now) ≡ true)) }
+            (λ x. numbered (entries_of self.now) entry ≡ meaning (rule_of x.record.now)) }
     {
-        let count = self.count();
-        if entry == 0 || entry > count {
-            return None;
-        }
-        Some(&self.records[entry - 1])
+        let record = self.records.get(entry.checked_sub(1)?)?;
+        Some(FormedRecord { record })
     }
 }
 
 impl Catalogue for Sheet {
     ghost entries = { entries_of };
 
-    ghost few = { λ x.
-        let e = length_entries x.records.items in
-        let o = x.records.ok.0 in
-        let f = x.few in
-        omega arith };
+    ghost few = { few_entries };
 
-    ghost typed = { λ x. sound_typed x.records.items x.sound };
+    ghost typed = { all_typed };
 
-    ghost sized = { λ x. sound_sized x.records.items x.sound };
+    ghost sized = { all_sized };
 
     fn count(&self) -> usize {
         self.records.len()
     }
 
     fn type_of(&self, entry: usize) -> StrategyType {
-        match self.record_of(entry) {
-            Some(supplied) => supplied.strategy,
-            None => StrategyType {
+        self.record_of(entry).map_or(
+            StrategyType {
                 first: b'-',
                 second: b'-',
             },
-        }
+            |formed| formed.record.strategy,
+        )
     }
 
     fn role_count(&self, entry: usize) -> usize {
-        match self.record_of(entry) {
-            Some(supplied) => supplied.roles.len(),
-            None => 0,
-        }
+        self.record_of(entry)
+            .map_or(0, |formed| formed.record.roles.len())
     }
 
     fn fits(&self, entry: usize, row: &[Leg]) -> bool {
-        match self.record_of(entry) {
-            Some(supplied) => fits_record(supplied, row),
-            None => false,
-        }
+        self.record_of(entry).is_some_and(|formed| formed.fits(row))
     }
 }

@@ -1,20 +1,14 @@
 // A record of a sheet as it is supplied: any number of roles and relations, any characters and numbers.
 use catalogue::strategy::StrategyType;
+use contracts::contract::Kind;
 use contracts::plain::Side;
-
-#[derive(Clone, Copy, PartialEq, Eq)]
-pub enum RoleKind {
-    Future,
-    Call,
-    Put,
-}
 
 // What a leg has to be to play a role.
 #[derive(Clone, Copy, PartialEq, Eq)]
 pub struct Role {
     pub side: Side,
     pub ratio: u32,
-    pub kind: RoleKind,
+    pub kind: Kind,
 }
 
 // What a relation looks at in the contracts of its roles.

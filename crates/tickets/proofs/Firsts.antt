@@ -1,5 +1,5 @@
 -- The refusals in their order: one line after another is clear, or the first that applies is told. Assumes nothing.
-use Rattle.std.proofs.Common.{◌≡◌, ℕ, suc, ◌+◌, ◌-◌, ◌<◌, ◌≤◌, cond, eqb, List, length, sym, refl, ap, ◌∙◌, subst, inl, inr, ⊎_elim, arith}
+use Rattle.std.proofs.Common.{◌≡◌, ℕ, zero, suc, ◌+◌, ◌-◌, ◌<◌, ◌≤◌, cond, eqb, List, [], ◌∷◌, length, get_or, sym, refl, ap, ◌∙◌, subst, inl, inr, ⊎_elim, arith}
 use Rattle.std.proofs.lemmas.Bool.{cases_lt}
 use Rattle.contracts.specs.declared.plain.PlainLeg.{PlainLeg}
 use Rattle.tickets.specs.Lines.{Holds, Nowhere, First}
@@ -29,6 +29,19 @@ low Core = (omega arith, omega arith)
 low LotOrTick = (omega arith, omega arith)
 low Halted = (omega arith, omega arith)
 low Late = (omega arith, omega arith)
+
+-- in the order of the list the lines have the numbers from 6 on
+abbrev pub in_order : List LegLine
+in_order = Range ∷ Repeat ∷ Core ∷ LotOrTick ∷ Halted ∷ Late ∷ []
+
+pub number_in_order : (i : ℕ) (d : LegLine) → i < 6 → leg_number (get_or in_order i d) ≡ 6 + i
+number_in_order zero d h = refl
+number_in_order (suc zero) d h = refl
+number_in_order (suc (suc zero)) d h = refl
+number_in_order (suc (suc (suc zero))) d h = refl
+number_in_order (suc (suc (suc (suc zero)))) d h = refl
+number_in_order (suc (suc (suc (suc (suc zero))))) d h = refl
+number_in_order (suc (suc (suc (suc (suc (suc i)))))) d h = absurd (omega arith)
 
 same_line : (l k : LegLine) → leg_number l ≡ leg_number k → l ≡ k
 same_line l k e = sym (back l) ∙ ap line_of e ∙ back k
@@ -90,17 +103,11 @@ module _ (minute : ℕ) (legs : List PlainLeg) where
           first = first_leg i h.not_before;
         })
 
-  pub upto_7 : Nowhere Range minute legs → Upto 7
-  upto_7 a = upto_more Range upto_none a
+  -- one line after another, in their order
+  pub upto_next : (i : ℕ) (d : LegLine) → i < 6 → Upto (6 + i) → Nowhere (get_or in_order i d) minute legs → Upto (6 + (i + 1))
+  upto_next i d h u none =
+      let e = number_in_order i d h in
+      λ l p. upto_more (get_or in_order i d) (subst Upto (sym e) u) none l (omega (arith, e))
 
-  pub upto_8 : Nowhere Range minute legs → Nowhere Repeat minute legs → Upto 8
-  upto_8 a b = upto_more Repeat (upto_7 a) b
-
-  pub upto_9 : Nowhere Range minute legs → Nowhere Repeat minute legs → Nowhere Core minute legs → Upto 9
-  upto_9 a b c = upto_more Core (upto_8 a b) c
-
-  pub upto_10 : Nowhere Range minute legs → Nowhere Repeat minute legs → Nowhere Core minute legs → Nowhere LotOrTick minute legs → Upto 10
-  upto_10 a b c d = upto_more LotOrTick (upto_9 a b c) d
-
-  pub upto_11 : Nowhere Range minute legs → Nowhere Repeat minute legs → Nowhere Core minute legs → Nowhere LotOrTick minute legs → Nowhere Halted minute legs → Upto 11
-  upto_11 a b c d e = upto_more Halted (upto_10 a b c d) e
+  pub told_next : minute ≤ 1439 → 2 ≤ length legs → length legs ≤ 4 → (i : ℕ) (d : LegLine) → i < 6 → Upto (6 + i) → (e : TicketRefusal) → First (get_or in_order i d) minute legs e → Refused minute legs e
+  told_next m p q i d h u e = told m p q (get_or in_order i d) (subst Upto (sym (number_in_order i d h)) u) e

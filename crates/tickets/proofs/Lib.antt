@@ -1,2 +1,5 @@
+pub mod Behind
 pub mod Firsts
+pub mod Places
+pub mod Scales
 pub mod Sound

@@ -1,12 +1,13 @@
 -- What holds of the legs where no refusal applies, and of the ticket that is made of them. Assumes nothing.
-use Rattle.std.proofs.Common.{◌≡◌, ℕ, ◌+◌, ◌-◌, ◌*◌, ◌/◌, ◌<◌, ◌≤◌, List, length, get_or, take, set, sym, ap, ◌∙◌, subst, inl, inr, ⊎_elim, one-mul, arith}
+use Rattle.std.proofs.Common.{◌≡◌, ℕ, ◌+◌, ◌-◌, ◌*◌, ◌/◌, ◌<◌, ◌≤◌, List, [], ◌∷◌, ◌++◌, length, get_or, take, sym, refl, ap, ◌∙◌, subst, inl, inr, ⊎_elim, one-mul, arith}
 use Prim.Native.Nat.{◌∣◌}
 use native.Mathlib.Nat.{div-mul_cancel, dvd-zero, dvd_antisymm, dvd_of_mul-dvd-mul_right, mul-dvd-mul_right, eq-one_of_dvd-one}
-use Rattle.std.proofs.lemmas.List.{get_or-set_same, get_or-set_other, get_or-take, length-take-le}
+use Rattle.std.proofs.lemmas.List.{get_or_append_left, get_or_push, length_push, take_all}
 use Rattle.std.proofs.lemmas.Bool.{cases_lt, cases_eq}
 use Rattle.contracts.specs.Plain.{plain_contract, ContractInRange}
 use Rattle.contracts.specs.declared.leg.Leg.{Leg}
 use Rattle.contracts.specs.declared.plain.PlainLeg.{PlainLeg}
+use Rattle.tickets.specs.Filled.{blank}
 use Rattle.tickets.specs.Kept.{Different, Reduced}
 use Rattle.tickets.specs.Lines.{Holds, leg_at}
 use Rattle.tickets.specs.Refused.{Clear, Keeps}
@@ -14,6 +15,32 @@ use Rattle.tickets.specs.Scales.{Scale}
 use Rattle.tickets.specs.declared.refusal.LegLine.{LegLine}
 use Rattle.tickets.specs.declared.refusal.LegLine.TheVariants.{Range, Repeat, Core, LotOrTick}
 use Rattle.tickets.specs.declared.refusal.TicketRefusal.TheVariants as refusal
+
+-- the row has the first n legs, as they are kept
+pub record Kept (s : ℕ) (legs : List PlainLeg) (row : List Leg) (n : ℕ) : Type 0 where
+  pub many : length row ≡ n
+  pub each : (k : ℕ) (d : Leg) → k < n → Keeps s (leg_at legs k) (get_or row k d)
+
+pub none_kept : (s : ℕ) (legs : List PlainLeg) → Kept s legs [] 0
+none_kept s legs = record { many = refl; each = λ k d h. absurd (omega arith) }
+
+-- one leg more, where there is room for it
+pub one_kept : (s : ℕ) (legs : List PlainLeg) (row after : List Leg) (n : ℕ) (l : Leg) → n < 4 → Kept s legs row n → Keeps s (leg_at legs n) l → after ≡ take 4 (row ++ l ∷ []) → Kept s legs after (n + 1)
+one_kept s legs row after n l room before here is =
+    let m = before.many in
+    let e : after ≡ row ++ l ∷ [] = is ∙ take_all 4 (row ++ l ∷ []) (omega (arith, length_push row l)) in
+    subst (λ (r : List Leg). Kept s legs r (n + 1)) (sym e)
+    (record {
+      many = omega (arith, length_push row l);
+      each =
+          λ k d h.
+          ⊎_elim
+          (λ (p : k < n). subst (Keeps s (leg_at legs k)) (sym (get_or_append_left row (l ∷ []) d k (omega arith))) (before.each k d p))
+          (λ (p : n ≤ k).
+          let q : k ≡ n = omega arith in
+          subst (λ (j : ℕ). Keeps s (leg_at legs j) (get_or (row ++ l ∷ []) j d)) (sym q) (subst (Keeps s (leg_at legs n)) (sym (get_or_push row l d n m)) here))
+          (cases_lt k n);
+    })
 
 -- two numbers that are not different are the same
 level : (a b : ℕ) → ((a ≡ b → ⊥) → ⊥) → a ≡ b
@@ -64,39 +91,23 @@ module _ (minute : ℕ) (legs : List PlainLeg) (clear : Clear minute legs) where
       absurd (omega arith))
       (cases_lt 0 s)
 
-  module _ (s : ℕ) where
-    -- the first n legs of a row are kept
-    abbrev pub Filled : List Leg → ℕ → Type 0
-    Filled row n = (k : ℕ) (d : Leg) → k < n → Keeps s (leg_at legs k) (get_or row k d)
+  pub keeps : (s : ℕ) → Scale legs s → (i : ℕ) → i < length legs → (l : Leg) → plain_contract l.contract ≡ (leg_at legs i).contract → l.side ≡ (leg_at legs i).side → l.ratio ≡ (leg_at legs i).lots / s → Keeps s (leg_at legs i) l
+  keeps s scale i h l p q r = record { contract = p; side = q; lots = ap (λ (n : ℕ). n * s) r ∙ div-mul_cancel s (scale.divides i h) }
 
-    pub keeps : Scale legs s → (i : ℕ) → i < length legs → (l : Leg) → plain_contract l.contract ≡ (leg_at legs i).contract → l.side ≡ (leg_at legs i).side → l.ratio ≡ (leg_at legs i).lots / s → Keeps s (leg_at legs i) l
-    keeps scale i h l p q r = record { contract = p; side = q; lots = ap (λ (n : ℕ). n * s) r ∙ div-mul_cancel s (scale.divides i h) }
-
-    pub filled_more : (row : List Leg) (i : ℕ) (l : Leg) → i < length row → Filled row i → Keeps s (leg_at legs i) l → Filled (set row i l) (i + 1)
-    filled_more row i l h filled here k d p =
-        ⊎_elim
-        (λ (e : k ≡ i). subst (λ (m : ℕ). Keeps s (leg_at legs m) (get_or (set row i l) m d)) (sym e) (subst (Keeps s (leg_at legs i)) (sym (get_or-set_same row i l d h)) here))
-        (λ (n : k ≡ i → ⊥). subst (Keeps s (leg_at legs k)) (sym (get_or-set_other row i k l d n)) (filled k d (omega arith)))
-        (cases_eq k i)
-
-    pub filled_all : (row : List Leg) (n : ℕ) → length legs ≤ n → Filled row n → Filled (take (length legs) row) (length legs)
-    filled_all row n h filled k d p = subst (Keeps s (leg_at legs k)) (sym (get_or-take (length legs) row k d p)) (filled k d (omega arith))
-
-    pub long : (row : List Leg) → length row ≡ 4 → length (take (length legs) row) ≡ length legs
-    long row e = let f = four in length-take-le (length legs) row (omega arith)
-
-  module _ (s : ℕ) (scale : Scale legs s) (xs : List Leg) (same : length xs ≡ length legs) (filled : Filled s xs (length legs)) where
+  module _ (s : ℕ) (scale : Scale legs s) (xs : List Leg) (kept : Kept s legs xs (length legs)) where
     pub different : Different xs
     different i j d h =
         let p = h.0 in
         let q = h.1 in
-        let a = (filled i d (omega arith)).contract in
-        let b = (filled j d (omega arith)).contract in
+        let m = kept.many in
+        let a = (kept.each i d (omega arith)).contract in
+        let b = (kept.each j d (omega arith)).contract in
         nowhere Repeat j (omega arith) (i, p, sym a ∙ ap plain_contract h.2 ∙ b)
 
-    pub reduced : Leg → Reduced xs
-    reduced d k all =
+    pub reduced : Reduced xs
+    reduced k all =
+        let m = kept.many in
         let lots : (i : ℕ) → i < length legs → k * s ∣ (leg_at legs i).lots =
-        λ i h. subst (λ (n : ℕ). k * s ∣ n) (filled i d h).lots (mul-dvd-mul_right k (all i d (omega arith)) s) in
+        λ i h. subst (λ (n : ℕ). k * s ∣ n) (kept.each i blank h).lots (mul-dvd-mul_right k (all i blank (omega arith)) s) in
         let whole : k * s ∣ 1 * s = subst (λ (n : ℕ). k * s ∣ n) (sym (one-mul s)) (scale.greatest (k * s) lots) in
         eq-one_of_dvd-one (dvd_of_mul-dvd-mul_right k (scale_some s scale) whole)

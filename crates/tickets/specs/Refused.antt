@@ -1,5 +1,5 @@
 -- The refusal that a ticket meets, or what is accepted. Assumes nothing.
-use Rattle.std.specs.Prelude.{◌≡◌, ℕ, ◌-◌, ◌*◌, ◌<◌, ◌≤◌, ◌⊎◌, List, length, take, slice_index_or}
+use Rattle.std.specs.Prelude.{◌≡◌, ℕ, ◌-◌, ◌*◌, ◌<◌, ◌≤◌, ◌⊎◌, List, length, slice_index_or}
 use Rattle.contracts.specs.Plain.{plain_contract}
 use Rattle.contracts.specs.declared.leg.Leg.{Leg}
 use Rattle.contracts.specs.declared.plain.PlainLeg.{PlainLeg}
@@ -38,7 +38,7 @@ pub record Keeps (scale : ℕ) (leg : PlainLeg) (kept : Leg) : Type 0 where
   pub lots : kept.ratio * scale ≡ leg.lots
 
 abbrev pub legs_of : Ticket → List Leg
-legs_of t = take t.count t.legs
+legs_of t = t.legs
 
 -- the ticket's legs are those handed in, in that order; its reference data is that of each of them
 pub record TicketOf (legs : List PlainLeg) (t : Ticket) : Type 0 where

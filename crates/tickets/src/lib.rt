@@ -5,5 +5,6 @@ pub mod check;
 pub mod fault;
 pub mod lines;
 pub mod refusal;
+pub mod row;
 pub mod scale;
 pub mod ticket;

@@ -1,71 +1,53 @@
 // Each line of the list that speaks of one leg, and the first leg of which it is true.
-ghost use Rattle.std.specs.Prelude.{◌≡◌, ◌+◌, ◌<◌, ◌≤◌, length, Decides, MatchResult};
-ghost use Rattle.contracts.specs.Plain.{ContractInRange, LegInRange};
-ghost use Rattle.tickets.specs.Lines.{Holds, Nowhere, First, Repeats, Halts, leg_at};
+ghost use Rattle.std.specs.Prelude.{◌≡◌, ◌+◌, ◌<◌, ◌≤◌, [], ◌∷◌, ◌++◌, length, Decides, MatchResult};
+ghost use Rattle.contracts.specs.Plain.{LegInRange};
+ghost use Rattle.tickets.specs.Lines.{ReferenceInRange, Holds, Nowhere, First, Repeats, Halts};
 
 use crate::refusal::{LegLine, TicketRefusal};
-use contracts::plain::{PlainContract, PlainLeg, State};
-use contracts::read::read_contract;
+use contracts::contract::Contract;
+use contracts::plain::{PlainLeg, Reference, State};
 
-fn within(n: u32, low: u32, high: u32) -> bool
-    ensures { Decides result ((low ≤ n) × (n ≤ high)) }
+fn reference_in_range(reference: &Reference) -> bool
+    ensures { Decides result (ReferenceInRange reference.now) }
 {
-    low <= n && n <= high
-}
-
-fn contract_in_range(contract: &PlainContract) -> bool
-    ensures { Decides result (ContractInRange contract.now) }
-{
-    read_contract(contract).is_some()
+    (1..=99).contains(&reference.core)
+        && (1..=1_000_000).contains(&reference.lot_size)
+        && (1..=1_000_000).contains(&reference.tick)
+        && (30..=1_439).contains(&reference.session_end)
 }
 
 fn in_range(leg: &PlainLeg) -> bool
     ensures { Decides result (LegInRange leg.now) }
 {
-    let reference = leg.reference;
-    // By `&`, so that there is one way through and each field is one fact.
-    contract_in_range(&leg.contract)
-        & within(leg.lots, 1, 9_999)
-        & within(reference.core, 1, 99)
-        & within(reference.lot_size, 1, 1_000_000)
-        & within(reference.tick, 1, 1_000_000)
-        & within(reference.session_end, 30, 1_439)
+    Contract::try_from(leg.contract).is_ok()
+        && (1..=9_999).contains(&leg.lots)
+        && reference_in_range(&leg.reference)
 }
 
-// Whether an earlier leg has the instrument of leg i.
-fn repeats(legs: &[PlainLeg], i: usize) -> bool
-    requires { i < length legs.now }
-    ensures { Decides result (Repeats legs.now i) }
+// Whether an earlier leg has the instrument of this one.
+fn repeats(earlier: &[PlainLeg], leg: &PlainLeg) -> bool
+    ensures { Decides result (Repeats (earlier.now ++ leg.now ∷ []) (length earlier.now)) }
 {
-    for j in 0..i {
-        if legs[j].contract == legs[i].contract {
-            return true;
-        }
-    }
-    false
+    earlier.iter().any(|other| other.contract == leg.contract)
 }
 
 // State A counts like T.
 fn halted(state: State) -> bool
     ensures { Decides result (Halts state) }
 {
-    match state {
-        State::Trading | State::Auction => false,
-        State::Suspended | State::Forbidden => true,
-    }
+    matches!(state, State::Suspended | State::Forbidden)
 }
 
-// Whether a line is true of a leg, the one at i.
-fn holds(line: LegLine, minute: u32, legs: &[PlainLeg], i: usize, leg: &PlainLeg) -> bool
-    requires within { i < length legs.now }
-    requires same { leg.now ≡ leg_at legs.now i }
-    ensures { Decides result (Holds line minute legs.now i) }
+// Whether a line is true of a leg that stands behind the earlier ones.
+#[tactic(auto, using(crate::proofs::Behind::own_place, crate::proofs::Behind::first_place))]
+fn holds(line: LegLine, minute: u32, earlier: &[PlainLeg], leg: &PlainLeg) -> bool
+    ensures { Decides result (Holds line minute (earlier.now ++ leg.now ∷ []) (length earlier.now)) }
 {
-    let first = legs[0].reference;
+    let first = earlier.first().unwrap_or(leg).reference;
     let own = leg.reference;
     match line {
         LegLine::Range => !in_range(leg),
-        LegLine::Repeat => repeats(legs, i),
+        LegLine::Repeat => repeats(earlier, leg),
         LegLine::Core => own.core != first.core,
         LegLine::LotOrTick => own.lot_size != first.lot_size || own.tick != first.tick,
         LegLine::Halted => halted(own.state),
@@ -80,7 +62,7 @@ pub(crate) fn refuse(line: LegLine, minute: u32, legs: &[PlainLeg]) -> Result<()
         (λ e. First line minute legs.now e) }
 {
     for (i, leg) in legs.iter().enumerate() {
-        if holds(line, minute, legs, i, leg) {
+        if holds(line, minute, &legs[..i], leg) {
             return Err(TicketRefusal::Leg { line, leg: i + 1 });
         }
     }

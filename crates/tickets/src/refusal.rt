@@ -1,18 +1,30 @@
 // Why a ticket is refused.
 ghost use Rattle.std.specs.Prelude.{◌≡◌};
-ghost use Rattle.tickets.specs.Refusals.{leg_number, ticket_fault};
+ghost use Rattle.tickets.specs.Refusals.{ticket_fault};
 
 use crate::fault::{Fault, Layer};
 
-// The lines of the list of refusals that speak of one leg, in their order.
+// The lines of the list of refusals that speak of one leg, each by its number there.
 #[derive(Clone, Copy, PartialEq, Eq)]
 pub enum LegLine {
-    Range,
-    Repeat,
-    Core,
-    LotOrTick,
-    Halted,
-    Late,
+    Range = 6,
+    Repeat = 7,
+    Core = 8,
+    LotOrTick = 9,
+    Halted = 10,
+    Late = 11,
+}
+
+impl LegLine {
+    // In the order of the list.
+    pub const ALL: [LegLine; 6] = [
+        LegLine::Range,
+        LegLine::Repeat,
+        LegLine::Core,
+        LegLine::LotOrTick,
+        LegLine::Halted,
+        LegLine::Late,
+    ];
 }
 
 // Legs are numbered from 1.
@@ -23,39 +35,19 @@ pub enum TicketRefusal {
     Leg { line: LegLine, leg: usize },
 }
 
-fn leg_number(line: LegLine) -> u8
-    ensures { result ≡ leg_number line }
-{
-    match line {
-        LegLine::Range => 6,
-        LegLine::Repeat => 7,
-        LegLine::Core => 8,
-        LegLine::LotOrTick => 9,
-        LegLine::Halted => 10,
-        LegLine::Late => 11,
-    }
-}
-
 impl From<TicketRefusal> for Fault {
     ghost from_gives = { λ e f. f ≡ ticket_fault e };
 
     fn from(e: TicketRefusal) -> Fault {
-        match e {
-            TicketRefusal::Minute => Fault {
-                number: 4,
-                layer: Layer::Ticket,
-                place: 0,
-            },
-            TicketRefusal::LegCount => Fault {
-                number: 5,
-                layer: Layer::Ticket,
-                place: 0,
-            },
-            TicketRefusal::Leg { line, leg } => Fault {
-                number: leg_number(line),
-                layer: Layer::Ticket,
-                place: leg,
-            },
+        let (number, place) = match e {
+            TicketRefusal::Minute => (4, 0),
+            TicketRefusal::LegCount => (5, 0),
+            TicketRefusal::Leg { line, leg } => (line as u8, leg),
+        };
+        Fault {
+            number,
+            layer: Layer::Ticket,
+            place,
         }
     }
 }

@@ -1,7 +1,8 @@
 // An accepted ticket, and what it keeps for as long as it exists.
-ghost use Rattle.std.specs.Prelude.{◌≤◌, take};
+ghost use Rattle.std.specs.Prelude.{◌≡◌, ◌≤◌, length};
 ghost use Rattle.tickets.specs.Kept.{Different, Reduced};
 
+use crate::row::Row;
 use contracts::leg::Leg;
 
 // What all legs of a ticket share.
@@ -12,15 +13,34 @@ pub struct Shared {
     pub tick: u32,
 }
 
-// Its legs are the first `count` of the four.
 #[derive(Clone, Copy)]
 pub struct Ticket {
-    pub(crate) legs: [Leg; 4],
-    pub(crate) count: usize,
+    pub(crate) legs: Row,
     pub(crate) scale: u32,
     pub(crate) shared: Shared,
-    ghost two: { 2 ≤ count },
-    ghost four: { count ≤ 4 },
-    ghost different: { Different (take count legs) },
-    ghost reduced: { Reduced (take count legs) },
+    ghost two: { 2 ≤ length legs },
+    ghost four: { length legs ≤ 4 },
+    ghost different: { Different legs },
+    ghost reduced: { Reduced legs },
+}
+
+impl Ticket {
+    // Two to four, in the order in which they were handed in.
+    pub fn legs(&self) -> &[Leg]
+        ensures { result.now ≡ self.now.legs }
+    {
+        self.legs.as_slice()
+    }
+
+    pub fn scale(&self) -> u32
+        ensures { result ≡ self.now.scale }
+    {
+        self.scale
+    }
+
+    pub fn shared(&self) -> Shared
+        ensures { result ≡ self.now.shared }
+    {
+        self.shared
+    }
 }

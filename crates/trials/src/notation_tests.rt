@@ -9,7 +9,6 @@ use keys::month::Month;
 use keys::strike::Strike;
 use notation::part::LegPart;
 use notation::read::read_leg;
-use notation::write::leg_text;
 use std::test::Fail;
 
 const MARKET: Reference = Reference {
@@ -103,7 +102,7 @@ fn a_leg_is_written_and_read_back(rt: HostRuntime) -> Result<(), Fail> {
         assert!(rt; false);
         return Ok(());
     };
-    let text = leg_text(rt.alloc(), &leg)?;
+    let text = leg.to_string(rt.alloc())?;
     assert!(rt; text.as_str() == "B10:DOL:C:2019-08:3800@2019-12");
     assert!(rt; read_leg(text.as_bytes(), &MARKET).is_ok());
     Ok(())

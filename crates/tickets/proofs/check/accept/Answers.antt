@@ -1,74 +1,57 @@
-use Rattle.std.proofs.Common.{◌<◌, length, ◌∙◌, arith}
-use Rattle.std.proofs.lemmas.List.{length-set}
-use Rattle.tickets.proofs.Sound.{two, four, in_range, scale_some, one_core, one_lot_size, one_tick, keeps, filled_more, filled_all, long, different, reduced}
+use Rattle.std.proofs.Common.{◌≡◌, ◌<◌, length, subst, arith}
+use Rattle.tickets.proofs.Sound.{two, four, in_range, scale_some, one_core, one_lot_size, one_tick, keeps, one_kept, different, reduced, Kept}
 use Rattle.tickets.proofs.check.accept.Goals as goal
 
-pub bounds-legs-0 : goal.bounds-legs-0
-bounds-legs-0 c = let p = two c.args.minute c.args.legs.now c.requires in omega arith
+pub kept-requires-clause-in_range : goal.kept-requires-clause-in_range
+kept-requires-clause-in_range c = in_range c.requires.0 c.args.legs.now c.requires.1 c.loop-leg.leg-index c.loop-leg-test.true
 
-pub kept-row-requires : goal.kept-row-requires
-kept-row-requires c =
-    let m = c.args.minute in
+pub kept-requires-clause-some : goal.kept-requires-clause-some
+kept-requires-clause-some c = scale_some c.requires.0 c.args.legs.now c.requires.1 _ c.scale_of-scale.ensures
+
+pub loop-leg-preserved : goal.loop-leg-preserved
+loop-leg-preserved c =
     let legs = c.args.legs.now in
-    let p = two m legs c.requires in
-    record { in_range = in_range m legs c.requires 0 (omega arith); some = scale_some m legs c.requires _ c.scale_of-scale.ensures }
-
-pub kept-requires : goal.kept-requires
-kept-requires c =
-    let m = c.args.minute in
-    let legs = c.args.legs.now in
-    record { in_range = in_range m legs c.requires c.loop-i.i c.loop-i-test.true; some = scale_some m legs c.requires _ c.scale_of-scale.ensures }
-
-pub bounds-row-i : goal.bounds-row-i
-bounds-row-i c = let p = four c.args.minute c.args.legs.now c.requires in omega arith
-
-pub loop-i-preserved : goal.loop-i-preserved
-loop-i-preserved c =
-    let m = c.args.minute in
-    let legs = c.args.legs.now in
-    let row = c.loop-i.row in
-    let i = c.loop-i.i in
+    let i = c.loop-leg.leg-index in
     let s = c.scale_of-scale.result in
-    let l = c.kept.result in
-    let p = four m legs c.requires in
-    let e = c.loop-i.invariant.0 in
-    let h : i < length row = omega arith in
-    let k = c.kept.ensures in (
-      length-set row i l ∙ e,
-      filled_more m legs c.requires s row i l h c.loop-i.invariant.1
-          (keeps m legs c.requires s c.scale_of-scale.ensures i c.loop-i-test.true l k.contract k.side k.ratio),
-    )
+    let k = c.kept.ensures in
+    let few = four c.requires.0 legs c.requires.1 in
+    let room : i < 4 = omega arith in
+    one_kept s legs c.loop-leg.row c.keep.new.self i c.kept.result room c.loop-leg.invariant
+    (keeps c.requires.0 legs c.requires.1 s c.scale_of-scale.ensures i c.loop-leg-test.true c.kept.result k.contract k.side k.ratio)
+    c.keep.ensures
 
-pub bounds-legs-0-2 : goal.bounds-legs-0-2
-bounds-legs-0-2 c = let p = two c.args.minute c.args.legs.now c.requires in omega arith
+pub bounds-legs-0 : goal.bounds-legs-0
+bounds-legs-0 c = let p = two c.requires.0 c.args.legs.now c.requires.1 in omega arith
 
 pub invariant_of-result : goal.invariant_of-result
 invariant_of-result c =
-    let m = c.args.minute in
+    let m = c.requires.0 in
     let legs = c.args.legs.now in
-    let row = c.loop-i.row in
     let s = c.scale_of-scale.result in
-    let scale = c.scale_of-scale.ensures in
-    let same = long m legs c.requires s row c.loop-i.invariant.0 in
-    let filled = filled_all m legs c.requires s row c.loop-i.i c.loop-i-test.false c.loop-i.invariant.1 in
+    let low = two m legs c.requires.1 in
+    let high = four m legs c.requires.1 in
+    let all : c.loop-leg.leg-index ≡ length legs = omega arith in
+    let kept = subst (λ n. Kept s legs c.loop-leg.row n) all c.loop-leg.invariant in
+    let many = kept.many in
     record {
-      two = two m legs c.requires;
-      four = four m legs c.requires;
-      different = different m legs c.requires s scale _ same filled;
-      reduced = reduced m legs c.requires s scale _ same filled c.kept-row.result;
+      two = omega arith;
+      four = omega arith;
+      different = different m legs c.requires.1 s c.scale_of-scale.ensures c.loop-leg.row kept;
+      reduced = reduced m legs c.requires.1 s c.scale_of-scale.ensures c.loop-leg.row kept;
     }
 
 pub returns : goal.returns
 returns c =
-    let m = c.args.minute in
+    let m = c.requires.0 in
     let legs = c.args.legs.now in
-    let row = c.loop-i.row in
     let s = c.scale_of-scale.result in
+    let all : c.loop-leg.leg-index ≡ length legs = omega arith in
+    let kept = subst (λ n. Kept s legs c.loop-leg.row n) all c.loop-leg.invariant in
     record {
-      count = long m legs c.requires s row c.loop-i.invariant.0;
-      keeps = filled_all m legs c.requires s row c.loop-i.i c.loop-i-test.false c.loop-i.invariant.1;
+      count = kept.many;
+      keeps = kept.each;
       scale = c.scale_of-scale.ensures;
-      core = one_core m legs c.requires;
-      lot_size = one_lot_size m legs c.requires;
-      tick = one_tick m legs c.requires;
+      core = one_core m legs c.requires.1;
+      lot_size = one_lot_size m legs c.requires.1;
+      tick = one_tick m legs c.requires.1;
     }

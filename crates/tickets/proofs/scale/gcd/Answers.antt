@@ -1,18 +1,8 @@
-use Prim.Native.Nat.{◌∣◌}
-use native.Mathlib.Nat.{dvd_refl, dvd-zero, dvd-mod_iff}
+use Rattle.std.proofs.lemmas.Nat.Gcd.{IsGcd-from_mod, IsGcd-from_zero}
 use Rattle.tickets.proofs.scale.gcd.Goals as goal
 
 pub loop-y-preserved : goal.loop-y-preserved
-loop-y-preserved c =
-    let inv = c.loop-y.invariant in (
-      λ d p q. let h = inv.0 d p q in (h.1, (dvd-mod_iff d h.1).1 h.0),
-      λ d p q. inv.1 d ((dvd-mod_iff d p).0 q) p,
-    )
+loop-y-preserved c = λ g h. c.loop-y.invariant g (IsGcd-from_mod c.loop-y.x c.loop-y.y g h)
 
 pub returns : goal.returns
-returns c =
-    let x = c.loop-y.x in
-    let inv = c.loop-y.invariant in
-    let z : x ∣ c.loop-y.y = rw c.loop-y-test.false (dvd-zero x) in
-    let both = inv.1 x (dvd_refl x) z in
-    record { first = both.0; second = both.1; greatest = λ d p q. (inv.0 d p q).0 }
+returns c = c.loop-y.invariant c.loop-y.x (IsGcd-from_zero c.loop-y.x c.loop-y.y c.loop-y-test.false)

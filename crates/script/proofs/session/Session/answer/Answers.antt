@@ -4,7 +4,7 @@ use Rattle.script.specs.Answers.{TicketAnswer}
 use Rattle.script.specs.Kept.{kept_legs}
 use Rattle.script.specs.Lines.{ticket, LineReads}
 use Rattle.script.specs.Says.{Says}
-use Rattle.script.specs.Words.{words, body_of}
+use Rattle.notation.specs.Words.{words, body_of}
 use Rattle.script.proofs.Five.{answered, kept_ticket}
 use Rattle.script.proofs.session.Session.answer.Goals as goal
 
