@@ -3,7 +3,7 @@ use Rattle.std.specs.Prelude.{ℕ, ◌-◌, List, map, slice_index_or}
 use Rattle.contracts.specs.declared.leg.Leg.{Leg}
 use Rattle.contracts.specs.declared.plain.Side.{Side}
 use Rattle.contracts.specs.declared.plain.Side.TheVariants.{Bought, Sold}
-use Rattle.tickets.specs.Filled.{blank}
+use Rattle.tickets.specs.Filled.{blank_leg}
 use Rattle.catalogue.specs.declared.direction.Direction.{Direction}
 use Rattle.catalogue.specs.declared.direction.Direction.TheVariants.{Buy, Sell}
 
@@ -27,7 +27,7 @@ direction_number Sell = 2
 
 -- what stands past the last leg; no seating names it
 abbrev pub no_leg : Leg
-no_leg = blank
+no_leg = blank_leg
 
 -- legs are numbered from 1
 abbrev pub leg_of : List Leg → ℕ → Leg

@@ -36,7 +36,7 @@ fn tell<C: Catalogue>(
     (fit.entry, fit.direction.number(), ticket.scale())
 }
 
-// The entry, the direction (1 or 2) and the scale; the type and the seating are left in the two places.
+// The entry, the direction (1 or 2) and the scale; the type and the seating are left in the two places. Plain numbers and lent places are the form in which a gateway takes an analysis.
 pub fn analyse<C: Catalogue>(
     catalogue: &C,
     minute: u32,

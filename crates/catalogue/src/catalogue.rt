@@ -12,7 +12,7 @@ pub trait Catalogue {
     fn count(&self) -> usize
         ensures { result ≡ length (entries self.now) };
 
-    // `--` for 0 and beyond the count.
+    // `--` for 0 and beyond the count: every question has an answer.
     fn type_of(&self, entry: usize) -> StrategyType
         ensures { result ≡ (numbered (entries self.now) entry).type };
 

@@ -8,10 +8,11 @@ use contracts::plain::Side;
 
 #[derive(Clone, Copy, PartialEq, Eq)]
 pub enum Direction {
-    Buy,
-    Sell,
+    Buy = 1,
+    Sell = 2,
 }
 
+// By name, since `!side` would say less.
 fn opposite(side: Side) -> Side
     ensures { result ≡ other_side side }
 {
@@ -29,14 +30,11 @@ impl Direction {
         [Direction::Buy, Direction::Sell]
     }
 
-    // BUY is 1, SELL is 2.
+    // BUY is 1, SELL is 2: an analysis answers plain numbers.
     pub fn number(self) -> u8
         ensures { result ≡ direction_number self }
     {
-        match self {
-            Direction::Buy => 1,
-            Direction::Sell => 2,
-        }
+        self as u8
     }
 
     // A leg as a direction has it.

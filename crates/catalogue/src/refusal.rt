@@ -12,6 +12,7 @@ pub enum CatalogueRefusal {
     NoEntryFits,
 }
 
+// By hand: a derive has no `from_gives`, by which clauses name the fault that a `?` makes.
 impl From<CatalogueRefusal> for Fault {
     ghost from_gives = { λ e f. f ≡ catalogue_fault e };
 

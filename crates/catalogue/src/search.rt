@@ -38,6 +38,7 @@ pub(crate) fn search<C: Catalogue>(catalogue: &C, ticket: &Ticket) -> Result<Fit
 {
     let roles = ticket.legs().len();
     let found = 'search: {
+        // A catalogue is asked by the numbers of its entries.
         for entry in 1..=catalogue.count() {
             // No seating fits an entry of another number of roles.
             if catalogue.role_count(entry) != roles {

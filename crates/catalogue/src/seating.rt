@@ -5,9 +5,11 @@ ghost use Rattle.catalogue.specs.Rows.{row as row_of};
 ghost use Rattle.catalogue.specs.Seatings.{seating_table, Complete, unpadded, Seats};
 
 use crate::direction::Direction;
+use contracts::leg::Leg;
 use tickets::row::Row;
 use tickets::ticket::Ticket;
 
+// Four leg numbers each, as an analysis writes a seating into a lent place.
 static PAIRS: [[u8; 4]; 2] = [[1, 2, 0, 0], [2, 1, 0, 0]];
 
 static TRIPLES: [[u8; 4]; 6] = [
@@ -61,7 +63,7 @@ pub fn seatings_of(legs: usize) -> &'static [[u8; 4]]
 }
 
 // A ticket's legs in the order of the roles, each as the direction has it.
-pub(crate) fn seated(ticket: &Ticket, direction: Direction, seating: &[u8; 4]) -> Row
+pub(crate) fn seated(ticket: &Ticket, direction: Direction, seating: &[u8; 4]) -> Row<Leg, 4>
     requires { Seats ticket.now seating.now }
     ensures { result ≡ row_of direction (legs_of ticket.now) (unpadded ticket.now seating.now) }
 {

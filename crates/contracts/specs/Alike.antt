@@ -1,7 +1,7 @@
 -- What `==` calls equal is one contract: a range that holds adds nothing. Assumes nothing.
-use Rattle.std.specs.Prelude.{◌≡◌, ℕ, Bool, true, false, ◌&&◌, ◌==◌, refl}
-use Rattle.std.proofs.Common.{ap}
-use Rattle.std.proofs.lemmas.Bool.{false≢true}
+use Rattle.std.specs.Prelude.{◌≡◌, ℕ, Bool, true, ◌&&◌, ◌==◌, Decides, refl}
+use Rattle.std.proofs.Common.{ap, subst}
+use Rattle.std.proofs.lemmas.Bool.{false≢true, and_from}
 use Rattle.std.specs.Cmp.{first_so, second_so, unsigned_Decides}
 use Rattle.keys.specs.declared.month.Month.{Month}
 use Rattle.keys.specs.declared.strike.Strike.{Strike}
@@ -51,7 +51,7 @@ underlying_alike on.Spot (on.Future m) e = absurd (false≢true e)
 underlying_alike (on.Future m) on.Spot e = absurd (false≢true e)
 underlying_alike (on.Future m) (on.Future n) e = ap on.Future (month_alike m n e)
 
-pub contract_alike : (x y : Contract) → contract.ghosts.eq x y ≡ true → x ≡ y
+contract_alike : (x y : Contract) → contract.ghosts.eq x y ≡ true → x ≡ y
 contract_alike (Future r m) (Future q n) e =
     let first = root_alike r q (first_so (root.ghosts.eq r q) (month.ghosts.eq m n) e) in
     let second = month_alike m n (second_so (root.ghosts.eq r q) (month.ghosts.eq m n) e) in
@@ -72,18 +72,14 @@ contract_alike (Option g r m s u) (Option h q n t v) e =
     let f = underlying_alike u v (second_so (strike.ghosts.eq s t) (underlying.ghosts.eq u v) e3) in
     λ i. Option (a i) (b i) (c i) (d i) (f i)
 
-both : (s t : Bool) → s ≡ true → t ≡ true → (s && t) ≡ true
-both true t e f = f
-both false t e f = e
-
 itself : (n : ℕ) → (n == n) ≡ true
 itself n = (unsigned_Decides n n).1 refl
 
 root_itself : (x : Root) → root.ghosts.eq x x ≡ true
-root_itself x = both _ _ (itself x.first) (both _ _ (itself x.second) (itself x.third))
+root_itself x = and_from _ _ (itself x.first) (and_from _ _ (itself x.second) (itself x.third))
 
 month_itself : (x : Month) → month.ghosts.eq x x ≡ true
-month_itself x = both _ _ (itself x.year) (itself x.month)
+month_itself x = and_from _ _ (itself x.year) (itself x.month)
 
 right_itself : (x : Right) → right.ghosts.eq x x ≡ true
 right_itself Call = refl
@@ -93,7 +89,20 @@ underlying_itself : (x : Underlying) → underlying.ghosts.eq x x ≡ true
 underlying_itself on.Spot = refl
 underlying_itself (on.Future m) = month_itself m
 
-pub contract_itself : (x : Contract) → contract.ghosts.eq x x ≡ true
-contract_itself (Future r m) = both _ _ (root_itself r) (month_itself m)
+contract_itself : (x : Contract) → contract.ghosts.eq x x ≡ true
+contract_itself (Future r m) = and_from _ _ (root_itself r) (month_itself m)
 contract_itself (Option g r m s u) =
-    both _ _ (right_itself g) (both _ _ (root_itself r) (both _ _ (month_itself m) (both _ _ (itself s.hundredths) (underlying_itself u))))
+    and_from _ _ (right_itself g) (and_from _ _ (root_itself r) (and_from _ _ (month_itself m) (and_from _ _ (itself s.hundredths) (underlying_itself u))))
+
+module _ {X : Type 0} (eq : X → X → Bool) (alike : (x y : X) → eq x y ≡ true → x ≡ y) (itself : (x : X) → eq x x ≡ true) where
+  told_by_eq : (x y : X) → Decides (eq x y) (x ≡ y)
+  told_by_eq x y = (alike x y, λ e. subst (λ (z : X). eq x z ≡ true) e (itself x))
+
+pub root_decides : (x y : Root) → Decides (root.ghosts.eq x y) (x ≡ y)
+root_decides = told_by_eq root.ghosts.eq root_alike root_itself
+
+pub underlying_decides : (x y : Underlying) → Decides (underlying.ghosts.eq x y) (x ≡ y)
+underlying_decides = told_by_eq underlying.ghosts.eq underlying_alike underlying_itself
+
+pub contract_decides : (x y : Contract) → Decides (contract.ghosts.eq x y) (x ≡ y)
+contract_decides = told_by_eq contract.ghosts.eq contract_alike contract_itself

@@ -15,6 +15,7 @@ use Rattle.contracts.specs.declared.plain.PlainUnderlying.TheVariants as plain_o
 use Rattle.contracts.specs.declared.plain.PlainContract.{PlainContract}
 use Rattle.contracts.specs.declared.plain.PlainContract.TheVariants as plain
 use Rattle.contracts.specs.declared.plain.PlainLeg.{PlainLeg}
+use Rattle.contracts.specs.declared.plain.Reference.{Reference}
 
 abbrev pub plain_root : Root → PlainRoot
 plain_root r = record { first = r.first; second = r.second; third = r.third }
@@ -46,11 +47,15 @@ ContractInRange (plain.Future root month) = RootInRange root × MonthInRange mon
 ContractInRange (plain.Option right root month strike underlying) =
     RootInRange root × MonthInRange month × StrikeRange strike × UnderlyingInRange underlying
 
--- each field of a leg that is a number has a range
+-- each number of the reference data has a range
+pub record ReferenceInRange (reference : Reference) : Type 0 where
+  pub core : (1 ≤ reference.core) × (reference.core ≤ 99)
+  pub lot_size : (1 ≤ reference.lot_size) × (reference.lot_size ≤ 1000000)
+  pub tick : (1 ≤ reference.tick) × (reference.tick ≤ 1000000)
+  pub session_end : (30 ≤ reference.session_end) × (reference.session_end ≤ 1439)
+
+-- and so has each other field of a leg that is a number
 pub record LegInRange (leg : PlainLeg) : Type 0 where
   pub contract : ContractInRange leg.contract
   pub lots : (1 ≤ leg.lots) × (leg.lots ≤ 9999)
-  pub core : (1 ≤ leg.reference.core) × (leg.reference.core ≤ 99)
-  pub lot_size : (1 ≤ leg.reference.lot_size) × (leg.reference.lot_size ≤ 1000000)
-  pub tick : (1 ≤ leg.reference.tick) × (leg.reference.tick ≤ 1000000)
-  pub session_end : (30 ≤ leg.reference.session_end) × (leg.reference.session_end ≤ 1439)
+  pub reference : ReferenceInRange leg.reference

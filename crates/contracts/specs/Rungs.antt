@@ -1,6 +1,6 @@
 -- Ladder order is a total order, and tells any two contracts apart. Assumes nothing.
 use Rattle.std.specs.Prelude.{◌≡◌, ℕ, refl}
-use Rattle.std.proofs.Common.{true, ap, subst, arith}
+use Rattle.std.proofs.Common.{ap, subst, arith}
 use Rattle.std.proofs.lemmas.Bool.Decides.{nat_tests}
 use Rattle.std.proofs.lemmas.Cmp.{nat_cmp_total, on_total, then_total, tied_itself}
 use Rattle.std.specs.Cmp.{IsTotalOrder, both_ways, Equal-is}
@@ -11,7 +11,7 @@ use Rattle.keys.specs.Ranges.{month_index}
 use Rattle.contracts.specs.Ladder.{ladder, by_month, kind_rank, strike_rank, underlying_rank}
 use Rattle.contracts.specs.Parts.{root_of, month_of}
 use Rattle.contracts.specs.Same.{same_contract}
-use Rattle.contracts.specs.Alike.{contract_alike, contract_itself}
+use Rattle.contracts.specs.Alike.{contract_decides}
 use Rattle.contracts.specs.contracts.contract.ContractPartialEq.TheImpl as contract
 use Rattle.contracts.specs.declared.contract.Contract.{Contract}
 
@@ -61,5 +61,5 @@ ladder_same x y e =
 pub ladder_equal : (x y : Contract) → contract.ghosts.eq x y ≡ eq_by_cmp ladder x y
 ladder_equal x y =
     both_ways (contract.ghosts.eq x y) (eq_by_cmp ladder x y)
-    (λ e. ap is_eq (subst (λ (z : Contract). ladder x z ≡ Equal) (contract_alike x y e) (tied_itself ladder_total x)))
-    (λ e. subst (λ (z : Contract). contract.ghosts.eq x z ≡ true) (ladder_same x y ((Equal-is (ladder x y)).0 e)) (contract_itself x))
+    (λ e. ap is_eq (subst (λ (z : Contract). ladder x z ≡ Equal) ((contract_decides x y).0 e) (tied_itself ladder_total x)))
+    (λ e. (contract_decides x y).1 (ladder_same x y ((Equal-is (ladder x y)).0 e)))

@@ -6,7 +6,7 @@ use crate::root::Root;
 use keys::month::Month;
 use keys::strike::Strike;
 
-#[derive(Clone, Copy, PartialEq, Eq, PartialOrd, Ord)]
+#[derive(Clone, Copy, PartialEq, Eq)]
 pub enum Right {
     Call,
     Put,

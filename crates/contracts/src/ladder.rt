@@ -10,6 +10,7 @@ use crate::contract::Contract;
 use keys::key::Key;
 use std::cmp::Ordering;
 
+// By hand: the root stands before the kind, and a derive compares the kind first.
 impl Ord for Contract {
     ghost cmp = { ladder };
 
@@ -43,7 +44,7 @@ impl Key for Contract {
     ghost same = { ladder_same };
 }
 
-// Whether two contracts are one instrument: ladder order tells any two others apart.
+// Whether two contracts are one instrument. It has a name of its own, since it promises that `==` holds of equal contracts alone.
 pub fn same_instrument(x: &Contract, y: &Contract) -> bool
     ensures { Decides result (x.now ≡ y.now) }
 {

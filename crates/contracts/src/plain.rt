@@ -1,4 +1,4 @@
-// A leg as it is handed in: plain numbers of any value.
+// A leg as it is handed in: plain numbers of any value. Types of their own, and not the contract's over other numbers, since this is the form that is to cross to C.
 use crate::contract::Right;
 
 #[derive(Clone, Copy, PartialEq, Eq)]

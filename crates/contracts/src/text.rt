@@ -3,7 +3,7 @@ ghost use Rattle.std.specs.Prelude.{Some};
 ghost use Rattle.contracts.specs.Letters.{right_text};
 ghost use Rattle.contracts.specs.Writing.{root_text, underlying_text, contract_text, leg_text};
 
-use crate::contract::{Contract, Right, Underlying};
+use crate::contract::{Contract, Kind, Right, Underlying};
 use crate::leg::Leg;
 use crate::root::Root;
 use std::fmt;
@@ -23,10 +23,8 @@ impl fmt::Display for Right {
     ghost output = { λ right. Some (right_text right) };
 
     fn fmt<W: fmt::Write>(&self, f: &mut fmt::Formatter<W>) -> fmt::Result {
-        match self {
-            Right::Call => write!(f, "C"),
-            Right::Put => write!(f, "P"),
-        }
+        let kind = Kind::from(*self);
+        write!(f, "{kind}")
     }
 }
 

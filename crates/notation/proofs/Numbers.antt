@@ -15,7 +15,7 @@ pub cond_ways : {X : Type 0} (b : Bool) (x y r : X) → cond b x y ≡ r → ((b
 cond_ways true x y r e = inl (refl, e)
 cond_ways false x y r e = inr (refl, e)
 
-pub err_not_ok : {X : Type 0} {part : LegPart} {x : X} → ◌≡◌ {A = Result X LegPart} (Err part) (Ok x) → ⊥
+pub err_not_ok : {E X : Type 0} {e : E} {x : X} → ◌≡◌ {A = Result X E} (Err e) (Ok x) → ⊥
 err_not_ok e = cc
 
 pub ok_same : {X : Type 0} {x y : X × List ℕ} → ◌≡◌ {A = Read X} (Ok x) (Ok y) → x ≡ y

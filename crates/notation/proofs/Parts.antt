@@ -12,7 +12,7 @@ use Rattle.contracts.specs.declared.plain.State.{State}
 use Rattle.contracts.specs.declared.plain.State.TheVariants.{Trading, Auction, Suspended, Forbidden}
 use Rattle.contracts.specs.declared.plain.PlainRoot.{PlainRoot}
 use Rattle.contracts.specs.declared.plain.PlainMonth.{PlainMonth}
-use Rattle.notation.specs.Reading.{Read, and_then, one, mark, number}
+use Rattle.notation.specs.Reading.{ReadFrom, and_then, one, mark, number}
 use Rattle.contracts.specs.Letters.{side_of, kind_of, state_of}
 use Rattle.notation.specs.LegReading.{root_character, meant, read_side, read_kind, read_state, read_root_character, read_root, read_month}
 use Rattle.contracts.specs.Letters.{side_text, right_text, state_text}
@@ -22,9 +22,9 @@ use Rattle.notation.specs.declared.part.LegPart.TheVariants as part
 use Rattle.notation.proofs.Numbers.{Stops, Cut, cond_ways, err_not_ok, ok_same, number_past, number_at}
 
 -- where both of two parts are read, the first is, and then the second
-pub then_ways : {X Y : Type 0} (r : Read X) (next : X → List ℕ → Read Y) (y : Y × List ℕ) → and_then r next ≡ Ok y → (got : X × List ℕ) × (r ≡ Ok got) × (next got.0 got.1 ≡ Ok y)
+pub then_ways : {Rest E X Y : Type 0} (r : ReadFrom Rest E X) (next : X → Rest → ReadFrom Rest E Y) (y : Y × Rest) → and_then r next ≡ Ok y → (got : X × Rest) × (r ≡ Ok got) × (next got.0 got.1 ≡ Ok y)
 then_ways (Ok got) next y e = (got, refl, e)
-then_ways (Err part) next y e = absurd (err_not_ok e)
+then_ways (Err left) next y e = absurd (err_not_ok e)
 
 pub mark_past : (wanted : ℕ) (part : LegPart) (text : List ℕ) (got : Unit {0} × List ℕ) → mark wanted part text ≡ Ok got → text ≡ wanted ∷ got.1
 mark_past wanted part [] got e = absurd (err_not_ok e)

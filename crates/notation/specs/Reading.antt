@@ -2,19 +2,23 @@
 use Rattle.std.specs.Prelude.{◌≡◌, ℕ, ◌+◌, ◌-◌, ◌*◌, ◌^◌, Bool, false, cond, ◌&&◌, List, [], ◌∷◌, Some, None, Ok, Err, Option, Result, ◌==◌, nat_le, nat_lt}
 use Rattle.notation.specs.declared.part.LegPart.{LegPart}
 
--- what is read, and the rest; or the part that cannot be read
-abbrev pub Read : Type 0 → Type 0
-Read X = Result (X × List ℕ) LegPart
+-- what is read from the front of a text or of a row of words, and the rest of it; or the error
+abbrev pub ReadFrom : Type 0 → Type 0 → Type 0 → Type 0
+ReadFrom Rest E X = Result (X × Rest) E
 
--- r is what f reads of a text, and it leaves `after`
-abbrev pub Reads : {X : Type 0} → (List ℕ → Read X) → List ℕ → Result X LegPart → List ℕ → Type 0
+-- r is what f reads, and it leaves `after`
+abbrev pub Reads : {Rest E X : Type 0} → (Rest → ReadFrom Rest E X) → Rest → Result X E → Rest → Type 0
 Reads f before (Ok x) after = f before ≡ Ok (x, after)
-Reads f before (Err part) after = f before ≡ Err part
+Reads f before (Err e) after = f before ≡ Err e
 
 -- one part after another
-abbrev pub and_then : {X Y : Type 0} → Read X → (X → List ℕ → Read Y) → Read Y
+abbrev pub and_then : {Rest E X Y : Type 0} → ReadFrom Rest E X → (X → Rest → ReadFrom Rest E Y) → ReadFrom Rest E Y
 and_then (Ok got) next = next got.0 got.1
-and_then (Err part) next = Err part
+and_then (Err e) next = Err e
+
+-- what is read of a text; or the part that cannot be read
+abbrev pub Read : Type 0 → Type 0
+Read X = ReadFrom (List ℕ) LegPart X
 
 -- the next character
 abbrev pub one : LegPart → List ℕ → Read ℕ

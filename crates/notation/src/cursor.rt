@@ -66,7 +66,7 @@ impl<'a> Cursor<'a> {
         Some(*first - b'0')
     }
 
-    // All the digits from here on, after those of a number.
+    // All the digits from here on, after those of a number. By `while let`, since the cursor has to stand behind them in the end.
     fn digits_after(&mut self, start: u32, part: LegPart) -> Result<u32, LegPart>
         ensures { Reads (more part start) self.old result self.new }
     {

@@ -5,7 +5,7 @@ ghost use Rattle.notation.specs.Words.{words, body_of};
 
 use std::marker::Model;
 
-// What is left of a line, which a contract reads as its words.
+// What is left of a line, which a contract reads as its words. Bytes, since a line may hold any.
 #[derive(Clone, Drop)]
 pub struct Words<'a> {
     rest: &'a [u8],

@@ -1,45 +1,41 @@
--- The digits at the front of a text. Assumes nothing.
-use Rattle.std.proofs.Common.{◌≡◌, ℕ, zero, suc, ◌<◌, ◌≤◌, true, false, List, [], ◌∷◌, ◌++◌, length, get_or, take, drop, sym, refl, ap, ◌∙◌, inl, inr, arith}
-use Rattle.std.proofs.lemmas.Bool.{cond-true, cond-false, and_from, le-leb, cases_Bool}
-use Rattle.notation.specs.Reading.{digit}
-use Rattle.notation.specs.Spelling.{Digits}
-use Rattle.records.specs.Terms.{digits_of, after_digits}
+-- The digits at the front of a text spell the number that stands there. Assumes nothing.
+use Rattle.std.proofs.Common.{◌≡◌, ℕ, suc, ◌+◌, ◌-◌, ◌*◌, ◌^◌, ltb, true, false, List, [], ◌∷◌, length, take, drop, refl, ◌∙◌, inl, inr}
+use Rattle.std.specs.List.{prefix_len, take_while}
+use Rattle.std.specs.Option.{option_map}
+use Rattle.std.specs.Result.{result_ok}
+use Rattle.std.proofs.Math.Numerals.{one-add}
+use Rattle.std.proofs.lemmas.Bool.{cases_Bool, cond-true, cond-false}
+use Rattle.std.proofs.lemmas.List.Folds.{length-prefix_len}
+use Rattle.notation.specs.LegReading.{whole}
+use Rattle.notation.specs.Reading.{digit, more, number}
+use Rattle.notation.specs.declared.part.LegPart.{LegPart}
 
--- the digits end where the first other character stands
-pub counted : (n : ℕ) (text : List ℕ) → n ≤ length text → ((k : ℕ) → k < n → digit (get_or text k 0) ≡ true) → (n < length text → digit (get_or text n 0) ≡ false) → (take n text ≡ digits_of text) × (drop n text ≡ after_digits text)
-counted zero [] h all ends = (refl, refl)
-counted zero (c ∷ text) h all ends = let e = ends (omega arith) in (sym (cond-false (digit c) _ _ e), sym (cond-false (digit c) _ _ e))
-counted (suc n) [] h all ends = absurd (omega arith)
-counted (suc n) (c ∷ text) h all ends =
-    let e = all 0 (omega arith) in
-    let rest = counted n text (omega arith) (λ k p. all (suc k) (omega arith)) (λ p. ends (omega arith)) in (
-      ap (λ (t : List ℕ). c ∷ t) rest.0 ∙ sym (cond-true (digit c) _ _ e),
-      rest.1 ∙ sym (cond-true (digit c) _ _ e),
-    )
+end_here : (c : ℕ) (text : List ℕ) → digit c ≡ false → prefix_len digit (c ∷ text) ≡ 0
+end_here c text d = cond-false _ _ _ d
 
--- a text begins with its digits
-pub joined : (text : List ℕ) → text ≡ digits_of text ++ after_digits text
-joined [] = refl
-joined (c ∷ text) =
+end_later : (c : ℕ) (text : List ℕ) → digit c ≡ true → prefix_len digit (c ∷ text) ≡ suc (prefix_len digit text)
+end_later c text d = cond-true _ _ _ d ∙ one-add _
+
+more_cut : (part : LegPart) (n : ℕ) (text : List ℕ) → result_ok (more part n text) ≡ option_map (λ v. (v, drop (prefix_len digit text) text)) (result_ok (whole (more part n (take (prefix_len digit text) text))))
+more_cut part n [] = refl
+more_cut part n (c ∷ text) =
     elim (cases_Bool (digit c)) [
-      | inl is ↦ rw is (ap (λ (t : List ℕ). c ∷ t) (joined text))
-      | inr is ↦ rw is
+      | inl d ↦ elim (cases_Bool (ltb (n * 10 + (c - 48)) (2 ^ 32))) [
+        | inl small ↦ rw (end_later c text d, d, small) (more_cut part (n * 10 + (c - 48)) text)
+        | inr large ↦ rw (end_later c text d, d, large) refl
+      ]
+      | inr d ↦ rw (end_here c text d, d) refl
     ]
 
--- what follows a number does not begin with a digit
-abbrev pub Stops : List ℕ → Type 0
-Stops [] = Unit {0}
-Stops (c ∷ text) = digit c ≡ false
+number_cut : (part : LegPart) (text : List ℕ) → result_ok (number part text) ≡ option_map (λ v. (v, drop (prefix_len digit text) text)) (result_ok (whole (number part (take (prefix_len digit text) text))))
+number_cut part [] = refl
+number_cut part (c ∷ text) =
+    elim (cases_Bool (digit c)) [
+      | inl d ↦ rw (end_later c text d, d) (more_cut part (c - 48) text)
+      | inr d ↦ rw (end_here c text d, d) refl
+    ]
 
-is_digit : (c : ℕ) → 48 ≤ c → c ≤ 57 → digit c ≡ true
-is_digit c low high = and_from _ _ (le-leb 48 c low) (le-leb c 57 high)
-
-pub digits_front : (ds rest : List ℕ) → Digits ds → Stops rest → digits_of (ds ++ rest) ≡ ds
-digits_front [] [] d s = refl
-digits_front [] (c ∷ rest) d s = cond-false (digit c) _ _ s
-digits_front (c ∷ ds) rest d s = cond-true (digit c) _ _ (is_digit c d.0 d.1) ∙ ap (λ (t : List ℕ). c ∷ t) (digits_front ds rest d.2 s)
-
-pub digits_after : (ds rest : List ℕ) → Digits ds → Stops rest → after_digits (ds ++ rest) ≡ rest
-digits_after [] [] d s = refl
-digits_after [] (c ∷ rest) d s = cond-false (digit c) _ _ s
-digits_after (c ∷ ds) rest d s = cond-true (digit c) _ _ (is_digit c d.0 d.1) ∙ digits_after ds rest d.2 s
+-- the text is cut where its digits end
+pub number_split : (part : LegPart) (text digits rest : List ℕ) (n : ℕ) → n ≡ length (take_while digit text) → digits ≡ take n text → rest ≡ drop n text → result_ok (number part text) ≡ option_map (λ v. (v, rest)) (result_ok (whole (number part digits)))
+number_split part text digits rest n at front back =
+    let end : n ≡ prefix_len digit text = at ∙ length-prefix_len digit text in rw (front, back, end) (number_cut part text)

@@ -1,4 +1,5 @@
 pub mod Letters
+pub mod Lettered
 pub mod Terms
 pub mod Reading
 pub mod Spelling

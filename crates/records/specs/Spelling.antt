@@ -1,13 +1,15 @@
 -- Which words spell which record. `codes` is a text that is written out. Assumes nothing.
 use Rattle.std.specs.Prelude.{◌≡◌, ℕ, List, [], ◌∷◌, ◌++◌, Ok, Err, codes, Result}
-use Rattle.contracts.specs.Letters.{side_text}
+use Rattle.std.specs.List.{AllZip}
+use Rattle.contracts.specs.Letters.{side_text, kind_text}
 use Rattle.notation.specs.Spelling.{Number}
+use Rattle.sheet.specs.Letters.{aspect_text, comparison_text}
 use Rattle.sheet.specs.Rules.{Rule, rule_of}
 use Rattle.sheet.specs.declared.record.Record.{Record}
 use Rattle.sheet.specs.declared.record.Relation.{Relation}
 use Rattle.sheet.specs.declared.record.Relation.TheVariants.{Compare, EvenSteps}
 use Rattle.sheet.specs.declared.record.Role.{Role}
-use Rattle.records.specs.Letters.{mark_text, kind_text, aspect_text, comparison_text}
+use Rattle.records.specs.Letters.{mark_text}
 use Rattle.records.specs.declared.trouble.Unread.{Unread}
 use Rattle.records.specs.declared.trouble.Unread.TheVariants.{Trouble, NoMemory}
 
@@ -23,26 +25,12 @@ RelationSpelled (Compare aspect first comparison second) word =
 RelationSpelled (EvenSteps aspect first second third) word =
     (a : List ℕ) × (b : List ℕ) × (c : List ℕ) × Number first a × Number second b × Number third c × (word ≡ aspect_text aspect ++ (codes ":" ++ (a ++ (codes "~" ++ (b ++ (codes "~" ++ c))))))
 
--- each word spells its role
-abbrev pub RolesSpelled : List Role → List (List ℕ) → Type 0
-RolesSpelled [] [] = Unit {0}
-RolesSpelled [] (w ∷ ws) = ⊥
-RolesSpelled (role ∷ roles) [] = ⊥
-RolesSpelled (role ∷ roles) (w ∷ ws) = RoleSpelled role w × RolesSpelled roles ws
-
--- each word spells its relation
-abbrev pub RelationsSpelled : List Relation → List (List ℕ) → Type 0
-RelationsSpelled [] [] = Unit {0}
-RelationsSpelled [] (w ∷ ws) = ⊥
-RelationsSpelled (relation ∷ relations) [] = ⊥
-RelationsSpelled (relation ∷ relations) (w ∷ ws) = RelationSpelled relation w × RelationsSpelled relations ws
-
--- the type's two characters, the mark, the roles, and behind them the relations
+-- the type's two characters, the mark, a word for each role, and behind them one for each relation
 pub record RecordSpelled (rule : Rule) (ws : List (List ℕ)) : Type 0 where
   pub role_words : List (List ℕ)
   pub relation_words : List (List ℕ)
-  pub roles_are : RolesSpelled rule.roles role_words
-  pub relations_are : RelationsSpelled rule.relations relation_words
+  pub roles_are : AllZip RoleSpelled rule.roles role_words
+  pub relations_are : AllZip RelationSpelled rule.relations relation_words
   pub all : ws ≡ (rule.strategy.first ∷ rule.strategy.second ∷ []) ∷ mark_text rule.marked ∷ (role_words ++ relation_words)
 
 -- the record that was read is the one that the words spell, and there is none where they cannot be read

@@ -1,89 +1,62 @@
 // One word of a record.
-ghost use Rattle.std.specs.Prelude.{◌≡◌, ℕ, ◌<◌, ◌≤◌, true, false, length, Some, None, MatchOption, slice_index};
+ghost use Rattle.std.specs.Prelude.{◌≡◌, ◌<◌, ◌≤◌, length, Some, None, MatchOption, take_while};
 ghost use Rattle.notation.specs.Reading.{digit};
-ghost use Rattle.records.specs.Terms.{first, only, digits_of, after_digits, numeral, number_front, read_type, mark_of, read_mark, side_of, kind_of, aspect_of, comparison_of, role_on, read_role, compared, stepped, relation_on, read_relation};
+ghost use Rattle.records.specs.Terms.{letter, letter_front, numeral, number_front, read_type, read_mark, read_role, compared, stepped, relation_on, read_relation};
 
+use crate::mark::Mark;
 use catalogue::strategy::StrategyType;
-use contracts::contract::Kind;
-use contracts::plain::Side;
+use contracts::letter::Letter;
 use notation::field::read_number;
 use notation::part::LegPart;
-use sheet::record::{Aspect, Comparison, Relation, Role};
+use sheet::record::{Aspect, Relation, Role};
 
-// The first character, and the rest.
-fn take_first(text: &[u8]) -> Option<(u8, &[u8])>
-    ensures { MatchOption result (first text.now ≡ None) (λ p. first text.now ≡ Some (p.0, p.1.now)) }
+// What a text of one letter stands for.
+fn letter<L: Letter>(text: &[u8]) -> Option<L>
+    ensures { result ≡ letter L.meaning text.now }
 {
-    let (c, rest) = text.split_first()?;
-    Some((*c, rest))
-}
-
-// The character that is the whole text.
-fn only_one(text: &[u8]) -> Option<u8>
-    ensures { result ≡ only text.now }
-{
-    match text {
-        [c] => Some(*c),
+    match *text {
+        [letter] => L::from_letter(letter),
         _ => None,
     }
 }
 
-// How many characters at the front are digits.
-fn count_digits(text: &[u8]) -> usize
-    ensures within { result ≤ length text.now }
-    ensures all { (k : ℕ) → k < result → digit (slice_index text.now k) ≡ true }
-    ensures ends { result < length text.now → digit (slice_index text.now result) ≡ false }
+// What the letter at the front stands for, and what follows it.
+fn letter_front<L: Letter>(text: &[u8]) -> Option<(L, &[u8])>
+    ensures { MatchOption result (letter_front L.meaning text.now ≡ None) (λ p. letter_front L.meaning text.now ≡ Some (p.0, p.1.now)) }
 {
-    for (i, c) in text.iter().enumerate() {
-        if *c < b'0' || *c > b'9' {
-            return i;
-        }
-    }
-    text.len()
+    let (letter, rest) = text.split_first()?;
+    Some((L::from_letter(*letter)?, rest))
 }
 
-// The digits at the front, and what follows them.
-fn split_digits(text: &[u8]) -> (&[u8], &[u8])
-    ensures { (result.0.now ≡ digits_of text.now) × (result.1.now ≡ after_digits text.now) }
-{
-    text.split_at(count_digits(text))
-}
-
-fn whole_number(text: &[u8]) -> Option<u32>
+fn numeral(text: &[u8]) -> Option<u32>
     ensures { result ≡ numeral text.now }
 {
     // Which part is told does not matter, since it is dropped.
     read_number(text, LegPart::Lots).ok()
 }
 
+// How many digits stand at the front.
+fn count_digits(text: &[u8]) -> usize
+    ensures { result ≡ length (take_while digit text.now) }
+{
+    text.iter().take_while(|c| c.is_ascii_digit()).count()
+}
+
 // The number at the front, and what follows its digits.
-fn take_number(text: &[u8]) -> Option<(u32, &[u8])>
+#[tactic(auto, using(crate::proofs::Digits::number_split))]
+fn number_front(text: &[u8]) -> Option<(u32, &[u8])>
     ensures { MatchOption result (number_front text.now ≡ None) (λ p. number_front text.now ≡ Some (p.0, p.1.now)) }
 {
-    let (digits, rest) = split_digits(text);
-    let n = whole_number(digits)?;
-    Some((n, rest))
+    let (digits, rest) = text.split_at(count_digits(text));
+    Some((numeral(digits)?, rest))
 }
 
 // Two characters.
 pub(crate) fn read_type(word: &[u8]) -> Option<StrategyType>
     ensures { result ≡ read_type word.now }
 {
-    match word {
-        [first, second] => Some(StrategyType {
-            first: *first,
-            second: *second,
-        }),
-        _ => None,
-    }
-}
-
-fn mark_of(letter: u8) -> Option<bool>
-    ensures { result ≡ mark_of letter }
-{
-    match letter {
-        b'M' => Some(true),
-        b'-' => Some(false),
+    match *word {
+        [first, second] => Some(StrategyType { first, second }),
         _ => None,
     }
 }
@@ -91,74 +64,26 @@ fn mark_of(letter: u8) -> Option<bool>
 pub(crate) fn read_mark(word: &[u8]) -> Option<bool>
     ensures { result ≡ read_mark word.now }
 {
-    mark_of(only_one(word)?)
+    let Mark(marked) = letter(word)?;
+    Some(marked)
 }
 
-fn side_of(letter: u8) -> Option<Side>
-    ensures { result ≡ side_of letter }
-{
-    match letter {
-        b'B' => Some(Side::Bought),
-        b'S' => Some(Side::Sold),
-        _ => None,
-    }
-}
-
-fn kind_of(letter: u8) -> Option<Kind>
-    ensures { result ≡ kind_of letter }
-{
-    match letter {
-        b'F' => Some(Kind::Future),
-        b'C' => Some(Kind::Call),
-        b'P' => Some(Kind::Put),
-        _ => None,
-    }
-}
-
-fn aspect_of(letter: u8) -> Option<Aspect>
-    ensures { result ≡ aspect_of letter }
-{
-    match letter {
-        b's' => Some(Aspect::Strike),
-        b'm' => Some(Aspect::Month),
-        _ => None,
-    }
-}
-
-fn comparison_of(letter: u8) -> Option<Comparison>
-    ensures { result ≡ comparison_of letter }
-{
-    match letter {
-        b'<' => Some(Comparison::Before),
-        b'=' => Some(Comparison::Same),
-        b'>' => Some(Comparison::After),
-        b'!' => Some(Comparison::Different),
-        _ => None,
-    }
-}
-
-// The ratio and the kind, after a role's side.
-fn role_on(side: Side, text: &[u8]) -> Option<Role>
-    ensures { result ≡ role_on side text.now }
-{
-    let (ratio, rest) = take_number(text)?;
-    let kind = kind_of(only_one(rest)?)?;
-    Some(Role { side, ratio, kind })
-}
-
+// The side, the ratio and the kind.
 pub(crate) fn read_role(word: &[u8]) -> Option<Role>
     ensures { result ≡ read_role word.now }
 {
-    let (letter, rest) = take_first(word)?;
-    role_on(side_of(letter)?, rest)
+    let (side, rest) = letter_front(word)?;
+    let (ratio, rest) = number_front(rest)?;
+    let kind = letter(rest)?;
+    Some(Role { side, ratio, kind })
 }
 
-// The second role of a comparison, after its character.
-fn compare(aspect: Aspect, first: u32, letter: u8, text: &[u8]) -> Option<Relation>
-    ensures { result ≡ compared aspect first letter text.now }
+// The comparison and the second role, after the first.
+fn compare(aspect: Aspect, first: u32, text: &[u8]) -> Option<Relation>
+    ensures { result ≡ compared aspect first text.now }
 {
-    let comparison = comparison_of(letter)?;
-    let second = whole_number(text)?;
+    let (comparison, rest) = letter_front(text)?;
+    let second = numeral(rest)?;
     Some(Relation::Compare {
         aspect,
         first,
@@ -171,12 +96,8 @@ fn compare(aspect: Aspect, first: u32, letter: u8, text: &[u8]) -> Option<Relati
 fn even_steps(aspect: Aspect, first: u32, text: &[u8]) -> Option<Relation>
     ensures { result ≡ stepped aspect first text.now }
 {
-    let (second, rest) = take_number(text)?;
-    let (mark, rest) = take_first(rest)?;
-    if mark != b'~' {
-        return None;
-    }
-    let third = whole_number(rest)?;
+    let (second, rest) = number_front(text)?;
+    let third = numeral(rest.strip_prefix(b"~")?)?;
     Some(Relation::EvenSteps {
         aspect,
         first,
@@ -185,28 +106,21 @@ fn even_steps(aspect: Aspect, first: u32, text: &[u8]) -> Option<Relation>
     })
 }
 
-// What stands behind the `:` of a relation.
-fn relation_on(aspect: Aspect, text: &[u8]) -> Option<Relation>
-    ensures { result ≡ relation_on aspect text.now }
+// What is said of the first role: even steps where a `~` follows, and else a comparison.
+fn relation_on(aspect: Aspect, first: u32, text: &[u8]) -> Option<Relation>
+    ensures { result ≡ relation_on aspect first text.now }
 {
-    let (first, rest) = take_number(text)?;
-    let (mark, rest) = take_first(rest)?;
-    if mark == b'~' {
-        even_steps(aspect, first, rest)
-    } else {
-        compare(aspect, first, mark, rest)
+    match text.strip_prefix(b"~") {
+        Some(rest) => even_steps(aspect, first, rest),
+        None => compare(aspect, first, text),
     }
 }
 
+// The aspect, `:`, the first role, and what is said of it.
 pub(crate) fn read_relation(word: &[u8]) -> Option<Relation>
     ensures { result ≡ read_relation word.now }
 {
-    let (letter, rest) = take_first(word)?;
-    let aspect = aspect_of(letter)?;
-    let (mark, rest) = take_first(rest)?;
-    if mark == b':' {
-        relation_on(aspect, rest)
-    } else {
-        None
-    }
+    let (aspect, rest) = letter_front(word)?;
+    let (first, rest) = number_front(rest.strip_prefix(b":")?)?;
+    relation_on(aspect, first, rest)
 }

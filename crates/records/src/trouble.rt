@@ -1,5 +1,6 @@
 // Why a text is no record.
 ghost use Rattle.std.specs.Prelude.{◌≡◌};
+ghost use Rattle.records.specs.Reading.{trouble_at};
 ghost use Rattle.records.specs.declared.trouble.Unread.TheVariants.{Trouble, NoMemory};
 
 use std::alloc::{AllocError, AllocFailed};
@@ -12,6 +13,15 @@ pub enum RecordPart {
     Mark,
     // Neither a role nor a relation, or a role behind a relation.
     Term,
+}
+
+impl RecordPart {
+    // The trouble with a word.
+    pub(crate) fn at(self, word: usize) -> RecordTrouble
+        ensures { result ≡ trouble_at word self }
+    {
+        RecordTrouble { word, part: self }
+    }
 }
 
 // The words are counted from 1, so that the type is the first.

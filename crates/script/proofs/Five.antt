@@ -1,16 +1,22 @@
 -- Five legs are answered as any more are: by the minute or by their number. Assumes nothing.
-use Rattle.std.proofs.Common.{◌≡◌, ℕ, ◌<◌, ◌≤◌, List, length, take, refl, ap, subst, inl, inr, ⊎_elim, arith}
+use Rattle.std.proofs.Common.{◌≡◌, ℕ, ◌<◌, ◌≤◌, List, length, take, Some, None, Ok, Err, Option, Result, refl, subst, inl, inr, ⊎_elim, arith}
 use Rattle.std.proofs.lemmas.List.{take_all, length-take-le}
 use Rattle.std.proofs.lemmas.Bool.{cases_lt}
 use Rattle.contracts.specs.declared.plain.PlainLeg.{PlainLeg}
+use Rattle.contracts.specs.declared.plain.Reference.{Reference}
+use Rattle.notation.specs.Words.{words, body_of}
 use Rattle.tickets.specs.Refused.{Applies, NoLater, Refused}
+use Rattle.tickets.specs.declared.fault.Fault.{Fault}
 use Rattle.tickets.specs.declared.refusal.TicketRefusal.{TicketRefusal}
 use Rattle.tickets.specs.declared.refusal.TicketRefusal.TheVariants.{Minute, LegCount, Leg}
+use Rattle.tickets.specs.declared.ticket.Ticket.{Ticket}
 use Rattle.tickets.proofs.Firsts.{low}
-use Rattle.script.specs.Answers.{TicketAnswer}
-use Rattle.script.specs.Lines.{Reading, passed, market, ticket, unreadable, kept_of}
+use Rattle.script.specs.Answers.{Checked, AnswerTo, Answered}
+use Rattle.script.specs.Lines.{Reading, reading, kept_of}
 use Rattle.script.specs.declared.answer.Answer.{Answer}
-use Rattle.script.specs.declared.answer.Answer.TheVariants as answer
+use Rattle.script.specs.declared.line.Line.TheVariants as line
+use Rattle.script.specs.declared.line.Trouble.{Trouble}
+use Rattle.script.proofs.Saying.{says}
 
 module _ (minute : ℕ) (all : List PlainLeg) (many : 5 < length all) where
   five : length (take 5 all) ≡ 5
@@ -36,22 +42,23 @@ module _ (minute : ℕ) (all : List PlainLeg) (many : 5 < length all) where
       let b = low line in
       ⊎_elim (λ h. absurd (omega arith)) (λ h. let k = h.0 in absurd (omega arith)) (r.first LegCount too_many)
 
-  answered_all : (a : Answer) → TicketAnswer minute (take 5 all) a → TicketAnswer minute all a
-  answered_all answer.Market h = absurd h
-  answered_all (answer.Ticket t) h = absurd (h.0 LegCount too_many)
-  answered_all (answer.Refused f) h = (h.0, refused_all h.0 h.1, h.2)
-  answered_all (answer.Unreadable t) h = absurd h
+  checked_all : (r : Result Ticket Fault) → Checked minute (take 5 all) r → Checked minute all r
+  checked_all (Ok t) h = absurd (h.0 LegCount too_many)
+  checked_all (Err f) h = (h.0, refused_all h.0 h.1, h.2)
 
-pub answered : (minute : ℕ) (all : List PlainLeg) (a : Answer) → TicketAnswer minute (take 5 all) a → TicketAnswer minute all a
-answered minute all a h =
+checked_five : (minute : ℕ) (all : List PlainLeg) (r : Result Ticket Fault) → Checked minute (take 5 all) r → Checked minute all r
+checked_five minute all r h =
     ⊎_elim
-    (λ (many : 5 < length all). answered_all minute all many a h)
-    (λ (few : length all ≤ 5). subst (λ (l : List PlainLeg). TicketAnswer minute l a) (take_all 5 all few) h)
+    (λ (many : 5 < length all). checked_all minute all many r h)
+    (λ (few : length all ≤ 5). subst (λ (l : List PlainLeg). Checked minute l r) (take_all 5 all few) h)
     (cases_lt 5 (length all))
 
--- what was read, where a ticket is kept
-pub kept_ticket : (r : Reading) (minute : ℕ) (legs : List PlainLeg) → ticket minute legs ≡ kept_of r → (all : List PlainLeg) × (r ≡ ticket minute all) × (legs ≡ take 5 all)
-kept_ticket passed minute legs e = let z : ◌≡◌ {A = ℕ} 0 1 = cc in absurd (omega arith)
-kept_ticket (market m) minute legs e = let z : ◌≡◌ {A = ℕ} 0 1 = cc in absurd (omega arith)
-kept_ticket (ticket n all) minute legs e = let same : n ≡ minute = cc in (all, ap (λ (k : ℕ). ticket k all) same, cc)
-kept_ticket (unreadable t) minute legs e = let z : ◌≡◌ {A = ℕ} 0 1 = cc in absurd (omega arith)
+answer_five : (before : Reference) (r : Reading) (o : Option (Result Answer Trouble)) (after : Reference) → AnswerTo before (kept_of r) o after → AnswerTo before r o after
+answer_five before (Ok None) o after h = h
+answer_five before (Ok (Some (line.Market m))) o after h = h
+answer_five before (Ok (Some (line.Ticket minute legs))) o after h = ((h.0.0, checked_five minute legs h.0.0 h.0.1, h.0.2), h.1)
+answer_five before (Err t) o after h = h
+
+-- what is kept of a line is enough to answer it
+pub answered : (before : Reference) (line : List ℕ) (k : Reading) (o : Option (Result Answer Trouble)) (after : Reference) → k ≡ kept_of (reading before (words (body_of line))) → AnswerTo before k o after → Answered before line o after
+answered before line k o after is h = (says before (words (body_of line)), answer_five before (reading before (words (body_of line))) o after (subst (λ (r : Reading). AnswerTo before r o after) is h))

@@ -1,5 +1,4 @@
 pub mod Five
 pub mod Keeping
 pub mod Printed
-pub mod Ratios
 pub mod Saying

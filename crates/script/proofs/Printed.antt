@@ -1,21 +1,25 @@
 -- An answer is one line: each of its characters can be printed. Assumes nothing.
-use Rattle.std.proofs.Common.{◌≡◌, ℕ, zero, suc, ◌+◌, ◌/◌, ◌%◌, ◌<◌, true, false, ◌&&◌, eqb, ltb, leb, List, [], ◌∷◌, ◌++◌, codes, decimal, sym, refl, subst, mod-lt, arith}
+use Rattle.std.proofs.Common.{◌≡◌, ℕ, zero, suc, ◌/◌, ◌%◌, ◌<◌, ◌+◌, true, false, eqb, ltb, List, [], ◌∷◌, ◌++◌, IfOk, Ok, Err, String, string_bytes, codes, decimal, Result, sym, refl, ◌∙◌, subst, mod-lt, arith}
+use Rattle.std.proofs.lemmas.Result.{IfOk-weaker}
 use Rattle.std.specs.Fmt.{digits, digits_onto, digit_glyph}
-use Rattle.std.proofs.lemmas.Bool.{and_from, and_parts, le-leb, lt-ltb, cond-true, cond_both}
+use Rattle.std.specs.List.{flat_map}
+use Rattle.std.proofs.lemmas.Bool.{and_from, le-leb, lt-ltb, cond-true, cond_both}
+use Rattle.std.proofs.lemmas.List.Folds.{list_all-append}
 use Rattle.contracts.specs.declared.leg.Leg.{Leg}
+use Rattle.tickets.specs.Refused.{legs_of}
+use Rattle.tickets.specs.Writing.{layer_text}
 use Rattle.tickets.specs.declared.fault.Layer.{Layer}
 use Rattle.tickets.specs.declared.fault.Layer.TheVariants as layer
-use Rattle.tickets.specs.Refused.{legs_of}
-use Rattle.script.specs.Texts.{printable, letter_of, piece, ratios_from, AnswerText}
+use Rattle.script.specs.Texts.{printable, further_ratio, ratios_text, answer_text, AnswerText}
 use Rattle.script.specs.declared.answer.Answer.{Answer}
 use Rattle.script.specs.declared.answer.Answer.TheVariants as answer
+use Rattle.script.specs.declared.line.Trouble.{Trouble}
 
 abbrev Prints : List ℕ → Type 0
 Prints text = printable text ≡ true
 
 joined : (xs ys : List ℕ) → Prints xs → Prints ys → Prints (xs ++ ys)
-joined [] ys p q = q
-joined (x ∷ xs) ys p q = let h = and_parts (leb 32 x && leb x 126) (printable xs) p in and_from _ _ h.0 (joined xs ys h.1 q)
+joined xs ys p q = list_all-append _ xs ys ∙ and_from (printable xs) (printable ys) p q
 
 digit : (d : ℕ) (text : List ℕ) → d < 10 → Prints text → Prints (digit_glyph false d ∷ text)
 digit d text h p =
@@ -32,42 +36,35 @@ number : (n : ℕ) → Prints (decimal n)
 unfolding digits
 number n = spells 64 n [] refl
 
-letter : (l : Layer) → Prints (letter_of l)
-letter layer.Ticket = refl
-letter layer.Catalogue = refl
-letter layer.Register = refl
+-- text that is printed behind a number, or in front of one
+then : (n : ℕ) (text : List ℕ) → Prints text → Prints (decimal n ++ text)
+then n text p = joined (decimal n) text (number n) p
 
-ratio : (i n : ℕ) → Prints (piece i n)
-ratio i n = cond_both (eqb i 0) (decimal n) (codes "," ++ decimal n) Prints (λ _. number n) (λ _. joined (codes ",") (decimal n) refl (number n))
+letter : (l : Layer) (text : List ℕ) → Prints text → Prints (layer_text l ++ text)
+letter layer.Ticket text p = p
+letter layer.Catalogue text p = p
+letter layer.Register text p = p
 
-ratios : (i : ℕ) (legs : List Leg) → Prints (ratios_from i legs)
-ratios i [] = refl
-ratios i (l ∷ ls) = joined (piece i l.ratio) (ratios_from (i + 1) ls) (ratio i l.ratio) (ratios (i + 1) ls)
+further : (legs : List Leg) → Prints (flat_map further_ratio legs)
+further [] = refl
+further (l ∷ ls) = joined (further_ratio l) (flat_map further_ratio ls) (number l.ratio) (further ls)
 
-pub one_line : (n : ℕ) (a : Answer) (bytes : List ℕ) → AnswerText n a bytes → Prints bytes
-one_line n answer.Market bytes e = subst Prints (sym e) (joined (decimal n) (codes " market") (number n) refl)
-one_line n (answer.Ticket t) bytes e =
-    let d : List ℕ = codes " " ++ ratios_from 0 (legs_of t) in
-    let c : List ℕ = decimal t.scale ++ d in
-    let b : List ℕ = codes " ticket " ++ c in
-    subst Prints (sym e)
-    (joined (decimal n) b (number n)
-    (joined (codes " ticket ") c refl (joined (decimal t.scale) d (number t.scale) (joined (codes " ") (ratios_from 0 (legs_of t)) refl (ratios 0 (legs_of t))))))
-one_line n (answer.Refused f) bytes e =
-    let g : List ℕ = codes " " ++ decimal f.place in
-    let d : List ℕ = codes " " ++ (letter_of f.layer ++ g) in
-    let c : List ℕ = decimal f.number ++ d in
-    let b : List ℕ = codes " ticket NO " ++ c in
-    subst Prints (sym e)
-    (joined (decimal n) b (number n)
-    (joined (codes " ticket NO ") c refl
-    (joined (decimal f.number) d (number f.number)
-    (joined (codes " ") (letter_of f.layer ++ g) refl
-    (joined (letter_of f.layer) g (letter f.layer) (joined (codes " ") (decimal f.place) refl (number f.place)))))))
-one_line n (answer.Unreadable t) bytes h =
-    let d : List ℕ = codes ": " ++ h.0 in
-    let c : List ℕ = decimal t.word ++ d in
-    let b : List ℕ = codes " error word " ++ c in
+ratios : (legs : List Leg) → Prints (ratios_text legs)
+ratios [] = refl
+ratios (l ∷ ls) = then l.ratio (flat_map further_ratio ls) (further ls)
+
+told : (a : Answer) → Prints (answer_text a)
+told answer.Market = refl
+told (answer.Ticket (Ok t)) = then t.scale (codes " " ++ ratios_text (legs_of t)) (ratios (legs_of t))
+told (answer.Ticket (Err f)) =
+    then f.number (codes " " ++ (layer_text f.layer ++ (codes " " ++ decimal f.place)))
+    (letter f.layer (codes " " ++ decimal f.place) (number f.place))
+
+one_line : (n : ℕ) (r : Result Answer Trouble) (bytes : List ℕ) → AnswerText n r bytes → Prints bytes
+one_line n (Ok a) bytes e = subst Prints (sym e) (then n (codes " " ++ answer_text a) (told a))
+one_line n (Err t) bytes h =
     subst Prints (sym h.2)
-    (joined (decimal n) b (number n)
-    (joined (codes " error word ") c refl (joined (decimal t.word) d (number t.word) (joined (codes ": ") h.0 refl h.1))))
+    (then n (codes " error word " ++ (decimal t.word ++ (codes ": " ++ h.0))) (then t.word (codes ": " ++ h.0) h.1))
+
+pub all_print : {A E : Type 0} (n : ℕ) (r : Result Answer Trouble) (o : Result (String A) E) → IfOk o (λ s. AnswerText n r (string_bytes s)) → IfOk o (λ s. printable (string_bytes s) ≡ true)
+all_print n r o told = IfOk-weaker o (λ s. AnswerText n r (string_bytes s)) (λ s. printable (string_bytes s) ≡ true) (λ s h. one_line n r (string_bytes s) h) told

@@ -1,5 +1,4 @@
 pub mod Answers
-pub mod Kept
 pub mod Lines
 pub mod Says
 pub mod Texts

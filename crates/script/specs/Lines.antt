@@ -1,15 +1,13 @@
 -- What a line of the script says. Assumes nothing.
-use Rattle.std.specs.Prelude.{◌≡◌, ℕ, ◌+◌, List, [], ◌∷◌, ◌++◌, length, take, Ok, Err, codes, Result, ◌≢◌, slice_index}
+use Rattle.std.specs.Prelude.{ℕ, ◌+◌, cond, List, [], ◌∷◌, take, Some, None, Ok, Err, codes, Option, Result, ◌==◌, slice_index}
+use Rattle.std.specs.Str.{bytes_eq}
 use Rattle.contracts.specs.declared.plain.PlainLeg.{PlainLeg}
 use Rattle.contracts.specs.declared.plain.Reference.{Reference}
 use Rattle.contracts.specs.declared.plain.State.{State}
 use Rattle.notation.specs.LegReading.{whole, read_state, read_leg}
-use Rattle.notation.specs.Reading.{number}
+use Rattle.notation.specs.Reading.{ReadFrom, and_then, number}
 use Rattle.notation.specs.declared.part.LegPart.{LegPart}
 use Rattle.notation.specs.declared.part.LegPart.TheVariants as part
-use Rattle.script.specs.Kept.{kept_legs}
-use Rattle.script.specs.declared.line.Call.{Call}
-use Rattle.script.specs.declared.line.Call.TheVariants as call
 use Rattle.script.specs.declared.line.Trouble.{Trouble}
 use Rattle.script.specs.declared.line.What.{What}
 use Rattle.script.specs.declared.line.What.TheVariants.{UnknownCall, MissingWord, SurplusWord, Minute, Part}
@@ -19,32 +17,36 @@ use Rattle.script.specs.declared.line.Line.TheVariants as line
 abbrev pub trouble : ℕ → What → Trouble
 trouble word what = record { word = word; what = what }
 
--- what the next words say, and the words after them
+-- what the next words say, and the words after them; or what is wrong with one of them
 abbrev pub Read : Type 0 → Type 0
-Read X = Result (X × List (List ℕ)) Trouble
+Read X = ReadFrom (List (List ℕ)) Trouble X
 
--- r is what f reads of words, and it leaves `after`
-abbrev pub Reads : {X : Type 0} → (List (List ℕ) → Read X) → List (List ℕ) → Result X Trouble → List (List ℕ) → Type 0
-Reads f before (Ok x) after = f before ≡ Ok (x, after)
-Reads f before (Err t) after = f before ≡ Err t
+-- what a word says, or what is wrong with it
+abbrev pub told : {X : Type 0} → (LegPart → What) → Result X LegPart → Result X What
+told wrong (Ok x) = Ok x
+told wrong (Err p) = Err (wrong p)
 
-abbrev pub and_then : {X Y : Type 0} → Read X → (X → List (List ℕ) → Read Y) → Read Y
-and_then (Ok got) next = next got.0 got.1
-and_then (Err t) next = Err t
+abbrev pub number_word : LegPart → List ℕ → Result ℕ What
+number_word p w = told Part (whole (number p w))
+
+abbrev pub state_word : List ℕ → Result State What
+state_word w = told Part (whole (read_state w))
+
+abbrev pub minute_word : List ℕ → Result ℕ What
+minute_word w = told (λ _. Minute) (whole (number part.End w))
+
+abbrev pub leg_word : Reference → List ℕ → Result PlainLeg What
+leg_word market w = told Part (read_leg market w)
 
 -- a word that was read, or the trouble with it
-abbrev pub placed : {X : Type 0} → ℕ → List (List ℕ) → Result X LegPart → Read X
+abbrev pub placed : {X : Type 0} → ℕ → List (List ℕ) → Result X What → Read X
 placed word rest (Ok x) = Ok (x, rest)
-placed word rest (Err p) = Err (trouble word (Part p))
+placed word rest (Err what) = Err (trouble word what)
 
--- word number `word` of a line is a number
-abbrev pub number_field : ℕ → LegPart → List (List ℕ) → Read ℕ
-number_field word p [] = Err (trouble word MissingWord)
-number_field word p (w ∷ ws) = placed word ws (whole (number p w))
-
-abbrev pub state_field : ℕ → List (List ℕ) → Read State
-state_field word [] = Err (trouble word MissingWord)
-state_field word (w ∷ ws) = placed word ws (whole (read_state w))
+-- word number `word` of a line
+abbrev pub field : {X : Type 0} → (List ℕ → Result X What) → ℕ → List (List ℕ) → Read X
+field says word [] = Err (trouble word MissingWord)
+field says word (w ∷ ws) = placed word ws (says w)
 
 -- nothing follows
 abbrev pub ended : ℕ → List (List ℕ) → Read (Unit {0})
@@ -52,98 +54,57 @@ ended word [] = Ok (tt, [])
 ended word (w ∷ ws) = Err (trouble word SurplusWord)
 
 -- CORE LOT TICK STATE END
-abbrev pub market_fields : List (List ℕ) → Read Reference
-market_fields ws =
-    and_then (number_field 2 part.Core ws)
+abbrev pub read_market : List (List ℕ) → Read Reference
+read_market ws =
+    and_then (field (number_word part.Core) 2 ws)
     (λ core rest.
-    and_then (number_field 3 part.LotSize rest)
+    and_then (field (number_word part.LotSize) 3 rest)
     (λ lot_size rest.
-    and_then (number_field 4 part.Tick rest)
+    and_then (field (number_word part.Tick) 4 rest)
     (λ tick rest.
-    and_then (state_field 5 rest)
+    and_then (field state_word 5 rest)
     (λ state rest.
-    and_then (number_field 6 part.SessionEnd rest)
+    and_then (field (number_word part.SessionEnd) 6 rest)
     (λ session_end rest.
     and_then (ended 7 rest)
     (λ _ rest. Ok (record { core = core; lot_size = lot_size; tick = tick; state = state; session_end = session_end }, rest)))))))
 
-abbrev pub first : {X : Type 0} → Read X → Result X Trouble
-first (Ok got) = Ok got.0
-first (Err t) = Err t
+-- each further word is a leg; the first that is none is told
+abbrev pub read_legs : Reference → ℕ → List (List ℕ) → Read (List PlainLeg)
+read_legs market word [] = Ok ([], [])
+read_legs market word (w ∷ ws) =
+    and_then (placed word ws (leg_word market w))
+    (λ leg rest. and_then (read_legs market (word + 1) ws) (λ legs rest. Ok (leg ∷ legs, rest)))
 
-abbrev pub read_market : List (List ℕ) → Result Reference Trouble
-read_market ws = first (market_fields ws)
+-- MINUTE LEG..
+abbrev pub read_ticket : Reference → List (List ℕ) → Read (ℕ × List PlainLeg)
+read_ticket market ws =
+    and_then (field minute_word 2 ws) (λ minute rest. and_then (read_legs market 3 rest) (λ legs rest. Ok ((minute, legs), rest)))
 
 -- what a line comes to: it is passed over, it is a call, or it cannot be read
-pub data Reading : Type 0 where
-  passed : Reading
-  market : Reference → Reading
-  ticket : ℕ → List PlainLeg → Reading
-  unreadable : Trouble → Reading
+abbrev pub Reading : Type 0
+Reading = Result (Option Line) Trouble
 
-abbrev pub meaning : Line → Reading
-meaning line.PassedOver = passed
-meaning (line.Market reference) = market reference
-meaning (line.Ticket minute legs) = ticket minute (kept_legs legs)
-meaning (line.Unreadable t) = unreadable t
+-- what is made of what was read; or the trouble
+abbrev pub made : {X Y : Type 0} → (X → Y) → Read X → Result Y Trouble
+made f (Ok got) = Ok (f got.0)
+made f (Err t) = Err t
+
+-- what the words of a line say, where `market` is the reference data that a leg takes which leaves its own out. `#` is 35
+abbrev pub reading : Reference → List (List ℕ) → Reading
+reading market [] = Ok None
+reading market (w ∷ ws) =
+    cond (slice_index w 0 == 35)
+    (Ok None)
+    (cond (bytes_eq w (codes "market"))
+    (made (λ m. Some (line.Market m)) (read_market ws))
+    (cond (bytes_eq w (codes "ticket"))
+    (made (λ t. Some (line.Ticket t.0 t.1)) (read_ticket market ws))
+    (Err (trouble 1 UnknownCall))))
 
 -- of a ticket's legs the first five are kept
 abbrev pub kept_of : Reading → Reading
-kept_of passed = passed
-kept_of (market reference) = market reference
-kept_of (ticket minute legs) = ticket minute (take 5 legs)
-kept_of (unreadable t) = unreadable t
-
-abbrev pub market_or : Result Reference Trouble → Reading
-market_or (Ok reference) = market reference
-market_or (Err t) = unreadable t
-
--- the minute, or the trouble that its word is no number
-abbrev pub minute_or : List (List ℕ) → Result ℕ LegPart → Read ℕ
-minute_or rest (Ok n) = Ok (n, rest)
-minute_or rest (Err p) = Err (trouble 2 Minute)
-
-abbrev pub minute_field : List (List ℕ) → Read ℕ
-minute_field [] = Err (trouble 2 MissingWord)
-minute_field (w ∷ ws) = minute_or ws (whole (number part.End w))
-
--- a leg that was read, or the trouble with its word
-abbrev pub leg_or : ℕ → (PlainLeg → Reading) → Result PlainLeg LegPart → Reading
-leg_or word next (Ok leg) = next leg
-leg_or word next (Err p) = unreadable (trouble word (Part p))
-
--- each further word is a leg; the first that is not makes the line unreadable
-abbrev pub ticket_after : Reference → ℕ → List PlainLeg → List (List ℕ) → Reading
-ticket_after ref minute legs [] = ticket minute legs
-ticket_after ref minute legs (w ∷ ws) = leg_or (length legs + 3) (λ leg. ticket_after ref minute (legs ++ leg ∷ []) ws) (read_leg ref w)
-
-abbrev pub legs_or : Reference → Read ℕ → Reading
-legs_or ref (Ok got) = ticket_after ref got.0 [] got.1
-legs_or ref (Err t) = unreadable t
-
-abbrev pub read_ticket : Reference → List (List ℕ) → Reading
-read_ticket ref ws = legs_or ref (minute_field ws)
-
--- what the first word asks for
-abbrev pub Names : List ℕ → Call → Type 0
-Names w call.Comment = slice_index w 0 ≡ 35
-Names w call.Market = w ≡ codes "market"
-Names w call.Ticket = w ≡ codes "ticket"
-Names w call.Unknown = (slice_index w 0 ≢ 35) × (w ≢ codes "market") × (w ≢ codes "ticket")
-
--- what the other words say to that
-abbrev pub read_as : Reference → Call → List (List ℕ) → Reading
-read_as ref call.Comment ws = passed
-read_as ref call.Market ws = market_or (read_market ws)
-read_as ref call.Ticket ws = read_ticket ref ws
-read_as ref call.Unknown ws = unreadable (trouble 1 UnknownCall)
-
--- what the words of a line say, where `ref` is the reference data that a leg takes which leaves its own out
-abbrev pub LineReads : Reference → List (List ℕ) → Reading → Type 0
-LineReads ref [] r = r ≡ passed
-LineReads ref (w ∷ ws) r = (c : Call) × Names w c × (r ≡ read_as ref c ws)
-
--- what is kept of that
-abbrev pub LineKept : Reference → List (List ℕ) → Reading → Type 0
-LineKept ref [] r = r ≡ passed
-LineKept ref (w ∷ ws) r = (c : Call) × Names w c × (r ≡ kept_of (read_as ref c ws))
+kept_of (Ok None) = Ok None
+kept_of (Ok (Some (line.Market m))) = Ok (Some (line.Market m))
+kept_of (Ok (Some (line.Ticket minute legs))) = Ok (Some (line.Ticket minute (take 5 legs)))
+kept_of (Err t) = Err t

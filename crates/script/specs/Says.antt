@@ -1,10 +1,11 @@
 -- What the words of a line say, by the grammar of the script. Assumes nothing.
-use Rattle.std.specs.Prelude.{◌≡◌, ℕ, List, [], ◌∷◌, codes, slice_index}
+use Rattle.std.specs.Prelude.{◌≡◌, ℕ, List, [], ◌∷◌, Some, None, Ok, Err, codes, slice_index}
 use Rattle.contracts.specs.declared.plain.PlainLeg.{PlainLeg}
 use Rattle.contracts.specs.declared.plain.Reference.{Reference}
 use Rattle.contracts.specs.Letters.{state_text}
 use Rattle.notation.specs.Spelling.{Number, Spells}
-use Rattle.script.specs.Lines.{Reading, passed, market, ticket, unreadable, kept_of, LineReads}
+use Rattle.script.specs.Lines.{Reading}
+use Rattle.script.specs.declared.line.Line.TheVariants as line
 
 -- no word, or a first word that begins with `#`
 abbrev pub PassedOver : List (List ℕ) → Type 0
@@ -40,15 +41,8 @@ pub record TicketLine (ref : Reference) (minute : ℕ) (legs : List PlainLeg) (w
 
 -- a line is unreadable exactly where it says none of these
 abbrev pub Says : Reference → List (List ℕ) → Reading → Type 0
-Says ref ws passed = PassedOver ws
-Says ref ws (market m) = MarketLine m ws
-Says ref ws (ticket minute legs) = TicketLine ref minute legs ws
-Says ref ws (unreadable t) =
+Says ref ws (Ok None) = PassedOver ws
+Says ref ws (Ok (Some (line.Market m))) = MarketLine m ws
+Says ref ws (Ok (Some (line.Ticket minute legs))) = TicketLine ref minute legs ws
+Says ref ws (Err t) =
     (PassedOver ws → ⊥) × ((m : Reference) → MarketLine m ws → ⊥) × ((minute : ℕ) (legs : List PlainLeg) → TicketLine ref minute legs ws → ⊥)
-
--- k is what is kept of what the words of a line say
-pub record LineSays (ref : Reference) (ws : List (List ℕ)) (k : Reading) : Type 0 where
-  pub reading : Reading
-  pub reads : LineReads ref ws reading
-  pub says : Says ref ws reading
-  pub kept : k ≡ kept_of reading

@@ -2,8 +2,6 @@
 #![tactic(auto)]
 
 pub mod answer;
-mod keep;
-mod legs;
 pub mod line;
 mod read;
 pub mod session;

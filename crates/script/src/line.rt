@@ -1,16 +1,7 @@
 // What a line of the script says.
-use crate::legs::LegRow;
-use contracts::plain::Reference;
+use contracts::plain::{PlainLeg, Reference};
 use notation::part::LegPart;
-
-// What the first word of a line asks for.
-#[derive(Clone, Copy, PartialEq, Eq)]
-pub(crate) enum Call {
-    Comment,
-    Market,
-    Ticket,
-    Unknown,
-}
+use tickets::row::Row;
 
 // What is wrong with a word.
 #[derive(Clone, Copy, PartialEq, Eq)]
@@ -29,10 +20,9 @@ pub struct Trouble {
     pub what: What,
 }
 
+// Of a ticket, the first five legs are enough: more than four are refused whatever they are.
 #[derive(Clone, Copy)]
 pub(crate) enum Line {
-    PassedOver,
     Market(Reference),
-    Ticket { minute: u32, legs: LegRow },
-    Unreadable(Trouble),
+    Ticket { minute: u32, legs: Row<PlainLeg, 5> },
 }

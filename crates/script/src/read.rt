@@ -1,58 +1,43 @@
 // A line of the script from its words.
-ghost use Rattle.std.specs.Prelude.{◌≡◌, ◌^◌, ◌<◌, [], length, Decides, slice_index};
+ghost use Rattle.std.specs.Prelude.{◌≡◌, ◌^◌, ◌<◌, [], ◌∷◌, length, take, MatchResult};
 ghost use Rattle.notation.specs.Words.{words, body_of};
-ghost use Rattle.script.specs.Says.{LineSays};
-ghost use Rattle.script.specs.Lines.{Reads, number_field, state_field, minute_field, ended, read_market, ticket_after, read_ticket, Names, LineKept, kept_of, meaning};
+ghost use Rattle.notation.specs.Reading.{Reads};
+ghost use Rattle.script.specs.Lines.{trouble, number_word, field, ended, read_market, read_legs, read_ticket, made, reading, kept_of};
+ghost use Rattle.script.specs.declared.line.What.TheVariants.{MissingWord};
+ghost use Rattle.script.specs.declared.line.Line.TheVariants.{Ticket as ticket};
 
-use crate::legs::LegRow;
-use crate::line::{Call, Line, Trouble, What};
-use contracts::plain::{Reference, State};
+use crate::line::{Line, Trouble, What};
+use contracts::plain::{PlainLeg, Reference};
 use notation::field::{read_number, read_state};
 use notation::part::LegPart;
 use notation::read::read_leg;
 use notation::words::{Words, body};
+use tickets::row::Row;
 
-fn number_field(rest: &mut Words, word: usize, part: LegPart) -> Result<u32, Trouble>
-    ensures { Reads (number_field word part) rest.old result rest.new }
+// The next word of a line, whose words are numbered.
+fn next_word<'a>(words: &mut Words<'a>, word: usize) -> Result<&'a [u8], Trouble>
+    ensures { MatchResult result (λ text. words.old ≡ text.now ∷ words.new) (λ t. (words.old ≡ []) × (t ≡ trouble word MissingWord)) }
 {
-    match rest.next() {
-        Some(text) => match read_number(text, part) {
-            Ok(n) => Ok(n),
-            Err(part) => Err(Trouble {
-                word,
-                what: What::Part(part),
-            }),
-        },
-        None => Err(Trouble {
-            word,
-            what: What::MissingWord,
-        }),
-    }
+    words.next().ok_or(Trouble {
+        word,
+        what: What::MissingWord,
+    })
 }
 
-fn state_field(rest: &mut Words, word: usize) -> Result<State, Trouble>
-    ensures { Reads (state_field word) rest.old result rest.new }
+fn read_field(words: &mut Words, word: usize, part: LegPart) -> Result<u32, Trouble>
+    ensures { Reads (field (number_word part) word) words.old result words.new }
 {
-    match rest.next() {
-        Some(text) => match read_state(text) {
-            Ok(state) => Ok(state),
-            Err(part) => Err(Trouble {
-                word,
-                what: What::Part(part),
-            }),
-        },
-        None => Err(Trouble {
-            word,
-            what: What::MissingWord,
-        }),
-    }
+    read_number(next_word(words, word)?, part).map_err(|part| Trouble {
+        word,
+        what: What::Part(part),
+    })
 }
 
 // Refuses a word that follows.
-fn end(rest: &mut Words, word: usize) -> Result<(), Trouble>
-    ensures { Reads (ended word) rest.old result rest.new }
+fn end(words: &mut Words, word: usize) -> Result<(), Trouble>
+    ensures { Reads (ended word) words.old result words.new }
 {
-    match rest.next() {
+    match words.next() {
         Some(_) => Err(Trouble {
             word,
             what: What::SurplusWord,
@@ -61,15 +46,18 @@ fn end(rest: &mut Words, word: usize) -> Result<(), Trouble>
     }
 }
 
-fn read_market(rest: &mut Words) -> Result<Reference, Trouble>
-    ensures { result ≡ read_market rest.old }
+fn read_market(words: &mut Words) -> Result<Reference, Trouble>
+    ensures { Reads read_market words.old result words.new }
 {
-    let core = number_field(rest, 2, LegPart::Core)?;
-    let lot_size = number_field(rest, 3, LegPart::LotSize)?;
-    let tick = number_field(rest, 4, LegPart::Tick)?;
-    let state = state_field(rest, 5)?;
-    let session_end = number_field(rest, 6, LegPart::SessionEnd)?;
-    end(rest, 7)?;
+    let core = read_field(words, 2, LegPart::Core)?;
+    let lot_size = read_field(words, 3, LegPart::LotSize)?;
+    let tick = read_field(words, 4, LegPart::Tick)?;
+    let state = read_state(next_word(words, 5)?).map_err(|part| Trouble {
+        word: 5,
+        what: What::Part(part),
+    })?;
+    let session_end = read_field(words, 6, LegPart::SessionEnd)?;
+    end(words, 7)?;
     Ok(Reference {
         core,
         lot_size,
@@ -79,101 +67,51 @@ fn read_market(rest: &mut Words) -> Result<Reference, Trouble>
     })
 }
 
-fn minute_field(rest: &mut Words) -> Result<u32, Trouble>
-    ensures { Reads minute_field rest.old result rest.new }
+fn read_legs(words: &mut Words, market: &Reference) -> Result<Row<PlainLeg, 5>, Trouble>
+    requires { length words.old < 2 ^ 63 }
+    ensures { result ≡ made (take 5) (read_legs market.now 3 words.old) }
 {
-    match rest.next() {
-        Some(text) => match read_number(text, LegPart::End) {
-            Ok(n) => Ok(n),
-            Err(_) => Err(Trouble {
-                word: 2,
-                what: What::Minute,
-            }),
-        },
-        None => Err(Trouble {
-            word: 2,
-            what: What::MissingWord,
-        }),
+    let mut legs = Row::new();
+    for (i, text) in words.enumerate() {
+        let leg = read_leg(text, market).map_err(|part| Trouble {
+            word: i + 3,
+            what: What::Part(part),
+        })?;
+        legs.keep(leg);
     }
+    Ok(legs)
 }
 
-fn read_legs(rest: &mut Words, market: &Reference, minute: u32) -> Line
-    requires { length rest.old < 2 ^ 63 }
-    ensures { meaning result ≡ kept_of (ticket_after market.now minute [] rest.old) }
+fn read_ticket(words: &mut Words, market: &Reference) -> Result<Line, Trouble>
+    requires { length words.old < 2 ^ 63 }
+    ensures { result ≡ made (λ t. ticket t.0 (take 5 t.1)) (read_ticket market.now words.old) }
 {
-    let mut legs = LegRow::new();
-    for (i, text) in rest.enumerate() {
-        match read_leg(text, market) {
-            Ok(leg) => legs.keep(leg),
-            Err(part) => return Line::Unreadable(Trouble {
-                word: i + 3,
-                what: What::Part(part),
-            }),
-        }
-    }
-    Line::Ticket { minute, legs }
+    let minute = read_number(next_word(words, 2)?, LegPart::End).map_err(|_| Trouble {
+        word: 2,
+        what: What::Minute,
+    })?;
+    let legs = read_legs(words, market)?;
+    Ok(Line::Ticket { minute, legs })
 }
 
-fn read_ticket(rest: &mut Words, market: &Reference) -> Line
-    requires { length rest.old < 2 ^ 63 }
-    ensures { meaning result ≡ kept_of (read_ticket market.now rest.old) }
+// What a line says, with or without its line feed, or none where it is passed over. Of a ticket's legs the first five are kept.
+pub(crate) fn read_line(line: &[u8], market: &Reference) -> Result<Option<Line>, Trouble>
+    ensures { result ≡ kept_of (reading market.now (words (body_of line.now))) }
 {
-    match minute_field(rest) {
-        Ok(minute) => read_legs(rest, market, minute),
-        Err(trouble) => Line::Unreadable(trouble),
-    }
-}
-
-fn is_word(word: &[u8], name: &[u8]) -> bool
-    ensures { Decides result (word.now ≡ name.now) }
-{
-    word == name
-}
-
-fn is_comment(word: &[u8]) -> bool
-    ensures { Decides result (slice_index word.now 0 ≡ 35) }
-{
-    word.len() > 0 && word[0] == b'#'
-}
-
-fn call_of(word: &[u8]) -> Call
-    ensures { Names word.now result }
-{
-    if is_comment(word) {
-        Call::Comment
-    } else if is_word(word, b"market") {
-        Call::Market
-    } else if is_word(word, b"ticket") {
-        Call::Ticket
-    } else {
-        Call::Unknown
-    }
-}
-
-fn line_of(line: &[u8], market: &Reference) -> Line
-    ensures { LineKept market.now (words (body_of line.now)) (meaning result) }
-{
-    let mut rest = Words::new(body(line));
-    let Some(word) = rest.next() else {
-        return Line::PassedOver;
+    let mut words = Words::new(body(line));
+    let Some(word) = words.next() else {
+        return Ok(None);
     };
-    match call_of(word) {
-        Call::Comment => Line::PassedOver,
-        Call::Market => match read_market(&mut rest) {
-            Ok(reference) => Line::Market(reference),
-            Err(trouble) => Line::Unreadable(trouble),
-        },
-        Call::Ticket => read_ticket(&mut rest, market),
-        Call::Unknown => Line::Unreadable(Trouble {
+    if word.starts_with(b"#") {
+        Ok(None)
+    } else if word == b"market".as_slice() {
+        Ok(Some(Line::Market(read_market(&mut words)?)))
+    } else if word == b"ticket".as_slice() {
+        Ok(Some(read_ticket(&mut words, market)?))
+    } else {
+        Err(Trouble {
             word: 1,
             what: What::UnknownCall,
-        }),
+        })
     }
-}
-
-// What a line says, with or without its line feed.
-pub(crate) fn read_line(line: &[u8], market: &Reference) -> Line
-    ensures { LineSays market.now (words (body_of line.now)) (meaning result) }
-{
-    line_of(line, market)
 }

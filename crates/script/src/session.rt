@@ -1,10 +1,9 @@
 // A session: the lines of a script, answered one by one.
-ghost use Rattle.std.specs.Prelude.{◌≡◌, MatchResult};
-ghost use Rattle.tickets.specs.Refused.{Clear, TicketOf};
-ghost use Rattle.script.specs.Answers.{opening_market, FaultOf, TicketAnswer, Answered};
+ghost use Rattle.std.specs.Prelude.{◌≡◌, Ok, Some};
+ghost use Rattle.script.specs.Answers.{opening_market, Checked, AnswerTo, Answered};
 
 use crate::answer::Answer;
-use crate::line::Line;
+use crate::line::{Line, Trouble};
 use crate::read::read_line;
 use contracts::plain::{PlainLeg, Reference, State};
 use tickets::check::check;
@@ -19,18 +18,9 @@ pub struct Session {
 
 // The ticket, or the one fault that every refusal comes to.
 fn checked(minute: u32, legs: &[PlainLeg]) -> Result<Ticket, Fault>
-    ensures { MatchResult result (λ t. Clear minute legs.now × TicketOf legs.now t) (λ f. FaultOf minute legs.now f) }
+    ensures { Checked minute legs.now result }
 {
     Ok(check(minute, legs)?)
-}
-
-fn answer_ticket(minute: u32, legs: &[PlainLeg]) -> Answer
-    ensures { TicketAnswer minute legs.now result }
-{
-    match checked(minute, legs) {
-        Ok(ticket) => Answer::Ticket(ticket),
-        Err(fault) => Answer::Refused(fault),
-    }
 }
 
 impl Session {
@@ -48,18 +38,27 @@ impl Session {
         }
     }
 
+    // The answer to a call, whose market holds from here on.
+    fn obey(&mut self, line: Line) -> Answer
+        ensures { AnswerTo self.old.market (Ok (Some line)) (Some (Ok result)) self.new.market }
+    {
+        match line {
+            Line::Market(market) => {
+                self.market = market;
+                Answer::Market
+            }
+            Line::Ticket { minute, legs } => Answer::Ticket(checked(minute, legs.as_slice())),
+        }
+    }
+
     // The answer to a line, or none where the line is passed over.
-    pub fn answer(&mut self, line: &[u8]) -> Option<Answer>
+    pub fn answer(&mut self, line: &[u8]) -> Option<Result<Answer, Trouble>>
         ensures { Answered self.old.market line.now result self.new.market }
     {
         match read_line(line, &self.market) {
-            Line::PassedOver => None,
-            Line::Market(market) => {
-                self.market = market;
-                Some(Answer::Market)
-            }
-            Line::Ticket { minute, legs } => Some(answer_ticket(minute, legs.as_slice())),
-            Line::Unreadable(trouble) => Some(Answer::Unreadable(trouble)),
+            Ok(None) => None,
+            Ok(Some(line)) => Some(Ok(self.obey(line))),
+            Err(trouble) => Some(Err(trouble)),
         }
     }
 }

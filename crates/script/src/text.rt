@@ -1,46 +1,11 @@
 // What the program writes.
 ghost use Rattle.std.specs.Prelude.{◌≡◌, true, IfOk, string_bytes};
-ghost use Rattle.script.specs.Texts.{letter_of, piece, ratios_from, printable, market_text, ticket_text, refusal_text, ErrorText, AnswerText};
+ghost use Rattle.script.specs.Texts.{printable, ErrorText, AnswerText};
 
 use crate::answer::Answer;
 use crate::line::{Trouble, What};
-use contracts::leg::Leg;
 use notation::part::LegPart;
 use std::alloc::{AllocError, Global};
-use tickets::fault::{Fault, Layer};
-use tickets::ticket::Ticket;
-
-fn layer_letter(layer: Layer) -> &'static str
-    ensures { result.now ≡ letter_of layer }
-{
-    match layer {
-        Layer::Ticket => "T",
-        Layer::Catalogue => "C",
-        Layer::Register => "G",
-    }
-}
-
-// A ratio, with a comma before each but the first.
-fn ratio_text(heap: Global, i: usize, ratio: u32) -> Result<String, AllocError>
-    ensures { IfOk result (λ s. string_bytes s ≡ piece i ratio) }
-{
-    if i == 0 {
-        format!(in heap; "{ratio}")
-    } else {
-        format!(in heap; ",{ratio}")
-    }
-}
-
-fn ratios_text(heap: Global, legs: &[Leg]) -> Result<String, AllocError>
-    ensures { IfOk result (λ s. string_bytes s ≡ ratios_from 0 legs.now) }
-{
-    let mut text = String::new(heap);
-    for (i, leg) in legs.iter().enumerate() {
-        let ratio = ratio_text(heap, i, leg.ratio)?;
-        text.push_str(ratio.as_str())?;
-    }
-    Ok(text)
-}
 
 // What a person is told of a word that cannot be read.
 fn what_text(what: What) -> &'static str
@@ -75,29 +40,6 @@ fn part_text(part: LegPart) -> &'static str
     }
 }
 
-fn market_text(heap: Global, number: u64) -> Result<String, AllocError>
-    ensures { IfOk result (λ s. string_bytes s ≡ market_text number) }
-{
-    format!(in heap; "{number} market")
-}
-
-fn ticket_text(heap: Global, number: u64, ticket: &Ticket) -> Result<String, AllocError>
-    ensures { IfOk result (λ s. string_bytes s ≡ ticket_text number ticket.now) }
-{
-    let scale = ticket.scale();
-    let ratios = ratios_text(heap, ticket.legs())?;
-    format!(in heap; "{number} ticket {scale} {ratios}")
-}
-
-fn refusal_text(heap: Global, number: u64, fault: Fault) -> Result<String, AllocError>
-    ensures { IfOk result (λ s. string_bytes s ≡ refusal_text number fault) }
-{
-    let line = fault.number;
-    let layer = layer_letter(fault.layer);
-    let place = fault.place;
-    format!(in heap; "{number} ticket NO {line} {layer} {place}")
-}
-
 fn error_text(heap: Global, number: u64, trouble: Trouble) -> Result<String, AllocError>
     ensures { IfOk result (λ s. ErrorText number trouble (string_bytes s)) }
 {
@@ -106,21 +48,17 @@ fn error_text(heap: Global, number: u64, trouble: Trouble) -> Result<String, All
     format!(in heap; "{number} error word {word}: {what}")
 }
 
-fn told(heap: Global, number: u64, answer: &Answer) -> Result<String, AllocError>
-    ensures { IfOk result (λ s. AnswerText number answer.now (string_bytes s)) }
-{
-    match *answer {
-        Answer::Market => market_text(heap, number),
-        Answer::Ticket(ticket) => ticket_text(heap, number, &ticket),
-        Answer::Refused(fault) => refusal_text(heap, number, fault),
-        Answer::Unreadable(trouble) => error_text(heap, number, trouble),
-    }
-}
-
 // The line that tells an answer, without its line feed.
-pub fn answer_text(heap: Global, number: u64, answer: &Answer) -> Result<String, AllocError>
+pub fn answer_text(
+    heap: Global,
+    number: u64,
+    answer: &Result<Answer, Trouble>,
+) -> Result<String, AllocError>
     ensures tells { IfOk result (λ s. AnswerText number answer.now (string_bytes s)) }
     ensures one_line { IfOk result (λ s. printable (string_bytes s) ≡ true) }
 {
-    told(heap, number, answer)
+    match answer {
+        Ok(answer) => format!(in heap; "{number} {answer}"),
+        Err(trouble) => error_text(heap, number, *trouble),
+    }
 }

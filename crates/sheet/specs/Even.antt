@@ -3,10 +3,7 @@ use Rattle.std.specs.Prelude.{◌≡◌, ℕ, zero, suc, ◌+◌, ◌<◌, [], �
 use Rattle.std.proofs.Common.{sym, arith}
 use Rattle.std.proofs.lemmas.Int.{ints}
 use Rattle.std.proofs.lemmas.Bool.Decides.{Decides-eqb, Decides-like}
-use Rattle.keys.specs.Ranges.{month_index}
 use Rattle.keys.specs.Rows.{Even}
-use Rattle.keys.specs.declared.month.Month.{Month}
-use Rattle.keys.specs.declared.strike.Strike.{Strike}
 use Rattle.sheet.specs.Meaning.{halfway}
 
 pub half_decides : (a b c : ℕ) → Decides (halfway a b c) (pos b -ℤ pos a ≡ pos c -ℤ pos b)
@@ -29,16 +26,10 @@ module _ {K : Type 0} (gap : K → K → ℤ) (x y z : K) where
   pub three_even : Even gap (x ∷ y ∷ z ∷ []) → gap x y ≡ gap y z
   three_even h = h 0 1 x (omega arith) (omega arith)
 
-abbrev pub strike_gap : Strike → Strike → ℤ
-strike_gap x y = pos y.hundredths -ℤ pos x.hundredths
+-- of keys that stand apart as their numbers do
+module _ {K : Type 0} (number : K → ℕ) where
+  abbrev pub gap_of : K → K → ℤ
+  gap_of x y = pos (number y) -ℤ pos (number x)
 
-abbrev pub month_gap : Month → Month → ℤ
-month_gap x y = pos (month_index y.year y.month) -ℤ pos (month_index x.year x.month)
-
-pub strikes_decide : (x y z : Strike) → Decides (halfway x.hundredths y.hundredths z.hundredths) (Even strike_gap (x ∷ y ∷ z ∷ []))
-strikes_decide x y z =
-    Decides-like _ (even_three strike_gap x y z) (three_even strike_gap x y z) (half_decides x.hundredths y.hundredths z.hundredths)
-
-pub months_decide : (x y z : Month) → Decides (halfway (month_index x.year x.month) (month_index y.year y.month) (month_index z.year z.month)) (Even month_gap (x ∷ y ∷ z ∷ []))
-months_decide x y z =
-    Decides-like _ (even_three month_gap x y z) (three_even month_gap x y z) (half_decides (month_index x.year x.month) (month_index y.year y.month) (month_index z.year z.month))
+  pub even_decides : (x y z : K) → Decides (halfway (number x) (number y) (number z)) (Even gap_of (x ∷ y ∷ z ∷ []))
+  even_decides x y z = Decides-like _ (even_three gap_of x y z) (three_even gap_of x y z) (half_decides (number x) (number y) (number z))

@@ -1,8 +1,11 @@
 pub mod Rules
 pub mod Forms
+pub mod Lettered
+pub mod Letters
 pub mod Meets
 pub mod Meaning
 pub mod Sheets
 pub mod Read
 pub mod Meeting
 pub mod Even
+pub mod Writing

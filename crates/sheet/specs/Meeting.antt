@@ -1,30 +1,25 @@
 -- The yes or no of a record's entry tells exactly the rows that meet the record. Assumes nothing.
 use Rattle.std.specs.Prelude.{◌≡◌, ℕ, ◌<◌, Bool, true, false, List, [], ◌∷◌, length, Option, Some, None, IfSome, Decides, nat_eq, refl}
-use Rattle.std.proofs.Common.{sym, ap, ◌∙◌, arith}
+use Rattle.std.proofs.Common.{sym, ◌∙◌, arith}
 use Rattle.std.specs.List.{AllByRecursion, AllZip, list_all, zip}
 use Rattle.std.proofs.ByRecursion.{All-weaker, Decides-by_and}
 use Rattle.std.proofs.lemmas.Bool.{false≢true, eq-eqb, and_parts, and_from}
 use Rattle.std.proofs.lemmas.Bool.Decides.{nat_tests, Decides-and, Decides-eqb, Decides-like}
 use Rattle.std.proofs.lemmas.Slice.Zip.{AllZip-long}
 use Rattle.std.specs.Ordering.{nat_cmp, is_some_and}
-use Rattle.keys.specs.declared.month.Month.{Month}
-use Rattle.keys.specs.contracts.month.MonthPartialEq.TheImpl as month
-use Rattle.keys.specs.Same.{same_month as one_month}
+use Rattle.contracts.specs.Alike.{root_decides, underlying_decides}
 use Rattle.contracts.specs.Parts.{root_of, kind_of, underlying_of}
 use Rattle.contracts.specs.declared.contract.Kind.{Kind}
 use Rattle.contracts.specs.contracts.contract.Kind.{the_type as kind_type}
 use Rattle.contracts.specs.contracts.contract.KindPartialEq.TheImpl as kind
-use Rattle.contracts.specs.contracts.contract.UnderlyingPartialEq.TheImpl as underlying
 use Rattle.contracts.specs.contracts.plain.Side.{the_type as side_type}
 use Rattle.contracts.specs.contracts.plain.SidePartialEq.TheImpl as side
-use Rattle.contracts.specs.contracts.root.RootPartialEq.TheImpl as root
 use denote.Enum.Bare.{same_true, true_same}
 use Rattle.contracts.specs.declared.contract.Underlying.{Underlying}
 use Rattle.contracts.specs.declared.contract.Underlying.TheVariants as on
 use Rattle.contracts.specs.declared.leg.Leg.{Leg}
 use Rattle.contracts.specs.declared.plain.Side.{Side}
 use Rattle.contracts.specs.declared.root.Root.{Root}
-use Rattle.contracts.specs.Same.{same_root_lem}
 use Rattle.catalogue.specs.Entries.{suits}
 use Rattle.catalogue.specs.Rows.{no_leg}
 use Rattle.sheet.specs.Meaning.{accepts, agrees, all_agree, all_play, allows, can_play, mark_kept, meaning, ordered, relation_holds, shared, steps_even}
@@ -81,35 +76,6 @@ allows_decides Before a b = (λ e. grind (arith, nat_tests), λ (h : a < b). gri
 allows_decides Same a b = (λ e. grind (arith, nat_tests), λ (h : a ≡ b). grind (arith, nat_tests))
 allows_decides After a b = (λ e. grind (arith, nat_tests), λ (h : b < a). grind (arith, nat_tests))
 allows_decides Different a b = (λ e s. grind (arith, nat_tests), λ (h : a ≡ b → ⊥). grind (arith, nat_tests))
-
-root_decides : (x y : Root) → Decides (root.ghosts.eq x y) (x ≡ y)
-root_decides x y =
-    Decides-like _
-    (λ h. same_root_lem x y h.0 h.1.0 h.1.1)
-    (λ e. (ap (λ (r : Root). r.first) e, (ap (λ (r : Root). r.second) e, ap (λ (r : Root). r.third) e)))
-    (Decides-and _ _ (Decides-eqb x.first y.first) (Decides-and _ _ (Decides-eqb x.second y.second) (Decides-eqb x.third y.third)))
-
-month_decides : (x y : Month) → Decides (month.ghosts.eq x y) (x ≡ y)
-month_decides x y =
-    Decides-like _
-    (λ h. one_month x y h.0 h.1)
-    (λ e. (ap (λ (m : Month). m.year) e, ap (λ (m : Month). m.month) e))
-    (Decides-and _ _ (Decides-eqb x.year y.year) (Decides-eqb x.month y.month))
-
--- the month, or another one at the spot
-abbrev month_or : Month → Underlying → Month
-month_or other on.Spot = other
-month_or other (on.Future m) = m
-
-abbrev is_spot : Underlying → Bool
-is_spot on.Spot = true
-is_spot (on.Future m) = false
-
-underlying_decides : (u v : Underlying) → Decides (underlying.ghosts.eq u v) (u ≡ v)
-underlying_decides on.Spot on.Spot = (λ _. refl, λ _. refl)
-underlying_decides on.Spot (on.Future n) = (λ e. absurd (false≢true e), λ e. absurd (false≢true (sym (ap is_spot e))))
-underlying_decides (on.Future m) on.Spot = (λ e. absurd (false≢true e), λ e. absurd (false≢true (ap is_spot e)))
-underlying_decides (on.Future m) (on.Future n) = Decides-like _ (λ e. ap on.Future e) (λ e. ap (month_or m) e) (month_decides m n)
 
 -- two options have one underlying
 abbrev Shares : Option Underlying → Option Underlying → Type 0

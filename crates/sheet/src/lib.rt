@@ -4,6 +4,8 @@
 mod fit;
 mod form;
 mod formed;
+mod letter;
 pub mod make;
 pub mod record;
 pub mod sheet;
+mod text;

@@ -7,7 +7,7 @@ use Rattle.std.proofs.lemmas.Bool.{cases_lt, cases_eq}
 use Rattle.contracts.specs.Plain.{plain_contract, ContractInRange}
 use Rattle.contracts.specs.declared.leg.Leg.{Leg}
 use Rattle.contracts.specs.declared.plain.PlainLeg.{PlainLeg}
-use Rattle.tickets.specs.Filled.{blank}
+use Rattle.tickets.specs.Filled.{blank_leg}
 use Rattle.tickets.specs.Kept.{Different, Reduced}
 use Rattle.tickets.specs.Lines.{Holds, leg_at}
 use Rattle.tickets.specs.Refused.{Clear, Keeps}
@@ -108,6 +108,6 @@ module _ (minute : ℕ) (legs : List PlainLeg) (clear : Clear minute legs) where
     reduced k all =
         let m = kept.many in
         let lots : (i : ℕ) → i < length legs → k * s ∣ (leg_at legs i).lots =
-        λ i h. subst (λ (n : ℕ). k * s ∣ n) (kept.each i blank h).lots (mul-dvd-mul_right k (all i blank (omega arith)) s) in
+        λ i h. subst (λ (n : ℕ). k * s ∣ n) (kept.each i blank_leg h).lots (mul-dvd-mul_right k (all i blank_leg (omega arith)) s) in
         let whole : k * s ∣ 1 * s = subst (λ (n : ℕ). k * s ∣ n) (sym (one-mul s)) (scale.greatest (k * s) lots) in
         eq-one_of_dvd-one (dvd_of_mul-dvd-mul_right k (scale_some s scale) whole)

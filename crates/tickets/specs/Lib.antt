@@ -4,3 +4,4 @@ pub mod Lines
 pub mod Refusals
 pub mod Refused
 pub mod Scales
+pub mod Writing

@@ -1,9 +1,8 @@
 -- What each line of the list of refusals says of a leg, over the legs as they are handed in. Assumes nothing.
-use Rattle.std.specs.Prelude.{◌≡◌, ℕ, ◌+◌, ◌-◌, ◌<◌, ◌≤◌, ◌⊎◌, List, length, slice_index_or}
+use Rattle.std.specs.Prelude.{◌≡◌, ℕ, ◌+◌, ◌-◌, ◌<◌, ◌⊎◌, List, length, slice_index_or}
 use Rattle.contracts.specs.Plain.{LegInRange}
 use Rattle.contracts.specs.declared.plain.PlainContract.TheVariants as contract
 use Rattle.contracts.specs.declared.plain.PlainLeg.{PlainLeg}
-use Rattle.contracts.specs.declared.plain.Reference.{Reference}
 use Rattle.contracts.specs.declared.plain.Side.TheVariants.{Bought}
 use Rattle.contracts.specs.declared.plain.State.{State}
 use Rattle.contracts.specs.declared.plain.State.TheVariants.{Trading, Suspended, Forbidden}
@@ -25,14 +24,6 @@ no_leg =
 -- legs counted from 0
 abbrev pub leg_at : List PlainLeg → ℕ → PlainLeg
 leg_at legs i = slice_index_or legs i no_leg
-
--- of the ranges of a leg's fields, those of its reference data
-abbrev pub ReferenceInRange : Reference → Type 0
-ReferenceInRange r =
-    ((1 ≤ r.core) × (r.core ≤ 99))
-    × ((1 ≤ r.lot_size) × (r.lot_size ≤ 1000000))
-    × ((1 ≤ r.tick) × (r.tick ≤ 1000000))
-    × ((30 ≤ r.session_end) × (r.session_end ≤ 1439))
 
 -- an earlier leg has the same contract
 abbrev pub Repeats : List PlainLeg → ℕ → Type 0

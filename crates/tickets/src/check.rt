@@ -67,7 +67,7 @@ fn accept(legs: &[PlainLeg]) -> Ticket
     }
 }
 
-// Accepts a minute and any number of legs, or refuses them.
+// Accepts a minute and any number of legs, or refuses them. The two come apart, as a gateway has them.
 pub fn check(minute: u32, legs: &[PlainLeg]) -> Result<Ticket, TicketRefusal>
     ensures refused { (e : TicketRefusal) → (result ≡ Err e → Refused minute legs.now e) × (Refused minute legs.now e → result ≡ Err e) }
     ensures accepted { IfOk result (λ t. Clear minute legs.now × TicketOf legs.now t) }

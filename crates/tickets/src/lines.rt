@@ -1,7 +1,7 @@
 // Each line of the list that speaks of one leg, and the first leg of which it is true.
 ghost use Rattle.std.specs.Prelude.{◌≡◌, ◌+◌, ◌<◌, ◌≤◌, [], ◌∷◌, ◌++◌, length, Decides, MatchResult};
-ghost use Rattle.contracts.specs.Plain.{LegInRange};
-ghost use Rattle.tickets.specs.Lines.{ReferenceInRange, Holds, Nowhere, First, Repeats, Halts};
+ghost use Rattle.contracts.specs.Plain.{LegInRange, ReferenceInRange};
+ghost use Rattle.tickets.specs.Lines.{Holds, Nowhere, First, Repeats, Halts};
 
 use crate::refusal::{LegLine, TicketRefusal};
 use contracts::contract::Contract;
@@ -38,7 +38,7 @@ fn halted(state: State) -> bool
     matches!(state, State::Suspended | State::Forbidden)
 }
 
-// Whether a line is true of a leg that stands behind the earlier ones.
+// Whether a line is true of a leg that stands behind the earlier ones. A line is named in the refusal too, so it is an enum and no closure.
 #[tactic(auto, using(crate::proofs::Behind::own_place, crate::proofs::Behind::first_place))]
 fn holds(line: LegLine, minute: u32, earlier: &[PlainLeg], leg: &PlainLeg) -> bool
     ensures { Decides result (Holds line minute (earlier.now ++ leg.now ∷ []) (length earlier.now)) }
@@ -55,7 +55,7 @@ fn holds(line: LegLine, minute: u32, earlier: &[PlainLeg], leg: &PlainLeg) -> bo
     }
 }
 
-// Refuses where a line is true of a leg, and tells the first such leg.
+// Refuses where a line is true of a leg, and tells the first such leg: a loop with the leg's index.
 pub(crate) fn refuse(line: LegLine, minute: u32, legs: &[PlainLeg]) -> Result<(), TicketRefusal>
     ensures { MatchResult result
         (λ _. Nowhere line minute legs.now)

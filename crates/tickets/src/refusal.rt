@@ -35,6 +35,7 @@ pub enum TicketRefusal {
     Leg { line: LegLine, leg: usize },
 }
 
+// By hand: a derive has no `from_gives`, by which clauses name the fault that a `?` makes.
 impl From<TicketRefusal> for Fault {
     ghost from_gives = { λ e f. f ≡ ticket_fault e };
 

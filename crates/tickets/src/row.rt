@@ -1,81 +1,127 @@
-// A row of at most four legs, seen as the list of them.
+// A row of at most N legs, seen as the list of them.
 ghost use Rattle.std.specs.Prelude.{◌≡◌, [], ◌∷◌, ◌++◌, take};
-ghost use Rattle.tickets.specs.Filled.{blank};
+ghost use Rattle.tickets.specs.Filled.{blank_leg};
+ghost use Rattle.tickets.specs.Lines.{no_leg};
 
 use contracts::contract::Contract;
 use contracts::leg::Leg;
-use contracts::plain::Side;
+use contracts::plain::{PlainContract, PlainLeg, PlainMonth, PlainRoot, Reference, Side, State};
 use contracts::root::Root;
 use keys::month::Month;
+use std::alloc::AllocError;
 use std::marker::Model;
 
-#[derive(Clone, Copy)]
-pub struct Row {
-    legs: [Leg; 4],
+// What stands in the places past the legs.
+pub trait Blank: Copy {
+    ghost blank: { Self };
+
+    fn blank() -> Self
+        ensures { result ≡ blank };
+}
+
+// N places and a count: a ticket is `Copy` and takes nothing from the heap.
+pub struct Row<T: Blank, const N: usize> {
+    legs: [T; N],
     count: usize,
 }
 
-impl Model for Row {
+impl<T: Blank, const N: usize> Model for Row<T, N> {
     ghost use Rattle.std.specs.Prelude.{◌≡◌, ◌≤◌, List, length, take};
     ghost use Rattle.std.proofs.Common.{sym};
-    ghost use Rattle.contracts.specs.declared.leg.Leg.{Leg};
     ghost use Rattle.tickets.specs.Filled.{filled, counted};
 
-    ghost Value = { List Leg };
+    ghost Value = { List T };
 
     ghost view = { λ r. take r.count r.legs };
 
-    ghost invariant = { λ r. (r.count ≤ 4) × (r.legs ≡ filled (take r.count r.legs)) };
+    ghost invariant = { λ r. (r.count ≤ N) × (r.legs ≡ filled N T.blank (take r.count r.legs)) };
 
-    ghost inverse = { λ xs. record { legs = filled xs; count = length xs } };
+    ghost inverse = { λ xs. record { legs = filled N T.blank xs; count = length xs } };
 
-    ghost inverse_ok = { λ a h i. record { legs = sym h.1 i; count = counted a.count a.legs h.0 h.1 i } };
+    ghost inverse_ok = { λ a h i. record { legs = sym h.1 i; count = counted N T.blank a.count a.legs h.0 h.1 i } };
 }
 
-// What stands in the places past the legs.
-fn no_leg() -> Leg
-    ensures { result ≡ blank }
-{
-    Leg {
-        contract: Contract::Future {
-            root: Root {
-                first: b'A',
-                second: b'A',
-                third: b'A',
-            },
-            month: Month {
-                year: 2000,
-                month: 1,
-            },
-        },
-        side: Side::Bought,
-        ratio: 0,
+impl<T: Blank, const N: usize> Clone for Row<T, N> {
+    ghost is_clone = { λ x y. y ≡ x };
+
+    fn clone(&self) -> Result<Row<T, N>, AllocError> {
+        Ok(*self)
     }
 }
 
-impl Row {
-    pub fn new() -> Row
+impl<T: Blank, const N: usize> Copy for Row<T, N> {}
+
+impl<T: Blank, const N: usize> Row<T, N> {
+    pub fn new() -> Row<T, N>
         ensures { result ≡ [] }
     {
         Row {
-            legs: [no_leg(); 4],
+            legs: [T::blank(); N],
             count: 0,
         }
     }
 
-    // One leg more; a fifth is not kept.
-    pub fn keep(&mut self, leg: Leg)
-        ensures { self.new ≡ take 4 (self.old ++ leg ∷ []) }
+    // One leg more; one past the last place is not kept.
+    pub fn keep(&mut self, leg: T)
+        ensures { self.new ≡ take N (self.old ++ leg ∷ []) }
     {
-        if self.count < 4 {
+        if self.count < N {
             self.legs[self.count] = leg;
             self.count += 1;
         }
     }
 
-    pub fn as_slice(&self) -> &[Leg]
+    pub fn as_slice(&self) -> &[T]
         ensures { result.now ≡ self.now }
     {
         &self.legs[..self.count]
+    }
+}
+
+impl Blank for Leg {
+    ghost blank = { blank_leg };
+
+    fn blank() -> Leg {
+        Leg {
+            contract: Contract::Future {
+                root: Root {
+                    first: b'A',
+                    second: b'A',
+                    third: b'A',
+                },
+                month: Month {
+                    year: 2000,
+                    month: 1,
+                },
+            },
+            side: Side::Bought,
+            ratio: 0,
+        }
+    }
+}
+
+impl Blank for PlainLeg {
+    ghost blank = { no_leg };
+
+    fn blank() -> PlainLeg {
+        PlainLeg {
+            contract: PlainContract::Future {
+                root: PlainRoot {
+                    first: 0,
+                    second: 0,
+                    third: 0,
+                },
+                month: PlainMonth { year: 0, month: 0 },
+            },
+            side: Side::Bought,
+            lots: 0,
+            reference: Reference {
+                core: 0,
+                lot_size: 0,
+                tick: 0,
+                state: State::Trading,
+                session_end: 0,
+            },
+        }
     }
 }

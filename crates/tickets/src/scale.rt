@@ -4,6 +4,7 @@ ghost use Rattle.tickets.specs.Scales.{Scale};
 
 use contracts::plain::PlainLeg;
 
+// Euclid's loop counts nothing that an iterator could count.
 fn gcd(a: u32, b: u32) -> u32
     ensures { IsGcd a b result }
 {

@@ -15,7 +15,7 @@ pub struct Shared {
 
 #[derive(Clone, Copy)]
 pub struct Ticket {
-    pub(crate) legs: Row,
+    pub(crate) legs: Row<Leg, 4>,
     pub(crate) scale: u32,
     pub(crate) shared: Shared,
     ghost two: { 2 ≤ length legs },
