@@ -37,6 +37,7 @@ pub enum Unread {
     NoMemory,
 }
 
+// By hand, all three: a derive has no `from_gives`, by which clauses name what a `?` makes.
 impl From<RecordTrouble> for Unread {
     ghost from_gives = { λ t r. r ≡ Trouble t };
 

@@ -1,4 +1,7 @@
 // What a line of the script says.
+ghost use Rattle.std.specs.Prelude.{◌≡◌};
+ghost use Rattle.script.specs.Lines.{trouble};
+
 use contracts::plain::{PlainLeg, Reference};
 use notation::part::LegPart;
 use tickets::row::Row;
@@ -11,6 +14,15 @@ pub enum What {
     SurplusWord,
     Minute,
     Part(LegPart),
+}
+
+impl What {
+    // The trouble with a word.
+    pub(crate) fn at(self, word: usize) -> Trouble
+        ensures { result ≡ trouble word self }
+    {
+        Trouble { word, what: self }
+    }
 }
 
 // The words of a line are numbered from 1.

@@ -14,23 +14,17 @@ use notation::read::read_leg;
 use notation::words::{Words, body};
 use tickets::row::Row;
 
-// The next word of a line, whose words are numbered.
+// The next word of a line, whose words are numbered; records have the same over their own trouble.
 fn next_word<'a>(words: &mut Words<'a>, word: usize) -> Result<&'a [u8], Trouble>
     ensures { MatchResult result (λ text. words.old ≡ text.now ∷ words.new) (λ t. (words.old ≡ []) × (t ≡ trouble word MissingWord)) }
 {
-    words.next().ok_or(Trouble {
-        word,
-        what: What::MissingWord,
-    })
+    words.next().ok_or(What::MissingWord.at(word))
 }
 
 fn read_field(words: &mut Words, word: usize, part: LegPart) -> Result<u32, Trouble>
     ensures { Reads (field (number_word part) word) words.old result words.new }
 {
-    read_number(next_word(words, word)?, part).map_err(|part| Trouble {
-        word,
-        what: What::Part(part),
-    })
+    read_number(next_word(words, word)?, part).map_err(|part| What::Part(part).at(word))
 }
 
 // Refuses a word that follows.
@@ -38,10 +32,7 @@ fn end(words: &mut Words, word: usize) -> Result<(), Trouble>
     ensures { Reads (ended word) words.old result words.new }
 {
     match words.next() {
-        Some(_) => Err(Trouble {
-            word,
-            what: What::SurplusWord,
-        }),
+        Some(_) => Err(What::SurplusWord.at(word)),
         None => Ok(()),
     }
 }
@@ -52,10 +43,7 @@ fn read_market(words: &mut Words) -> Result<Reference, Trouble>
     let core = read_field(words, 2, LegPart::Core)?;
     let lot_size = read_field(words, 3, LegPart::LotSize)?;
     let tick = read_field(words, 4, LegPart::Tick)?;
-    let state = read_state(next_word(words, 5)?).map_err(|part| Trouble {
-        word: 5,
-        what: What::Part(part),
-    })?;
+    let state = read_state(next_word(words, 5)?).map_err(|part| What::Part(part).at(5))?;
     let session_end = read_field(words, 6, LegPart::SessionEnd)?;
     end(words, 7)?;
     Ok(Reference {
@@ -73,10 +61,7 @@ fn read_legs(words: &mut Words, market: &Reference) -> Result<Row<PlainLeg, 5>, 
 {
     let mut legs = Row::new();
     for (i, text) in words.enumerate() {
-        let leg = read_leg(text, market).map_err(|part| Trouble {
-            word: i + 3,
-            what: What::Part(part),
-        })?;
+        let leg = read_leg(text, market).map_err(|part| What::Part(part).at(i + 3))?;
         legs.keep(leg);
     }
     Ok(legs)
@@ -86,15 +71,12 @@ fn read_ticket(words: &mut Words, market: &Reference) -> Result<Line, Trouble>
     requires { length words.old < 2 ^ 63 }
     ensures { result ≡ made (λ t. ticket t.0 (take 5 t.1)) (read_ticket market.now words.old) }
 {
-    let minute = read_number(next_word(words, 2)?, LegPart::End).map_err(|_| Trouble {
-        word: 2,
-        what: What::Minute,
-    })?;
+    let minute = read_number(next_word(words, 2)?, LegPart::End).map_err(|_| What::Minute.at(2))?;
     let legs = read_legs(words, market)?;
     Ok(Line::Ticket { minute, legs })
 }
 
-// What a line says, with or without its line feed, or none where it is passed over. Of a ticket's legs the first five are kept.
+// What a line says, with or without its line feed, or none where it is passed over. Of a ticket's legs the first five are kept. The first word is asked for by `==`, since a match on its bytes was not proved.
 pub(crate) fn read_line(line: &[u8], market: &Reference) -> Result<Option<Line>, Trouble>
     ensures { result ≡ kept_of (reading market.now (words (body_of line.now))) }
 {
@@ -109,9 +91,6 @@ pub(crate) fn read_line(line: &[u8], market: &Reference) -> Result<Option<Line>,
     } else if word == b"ticket".as_slice() {
         Ok(Some(read_ticket(&mut words, market)?))
     } else {
-        Err(Trouble {
-            word: 1,
-            what: What::UnknownCall,
-        })
+        Err(What::UnknownCall.at(1))
     }
 }

@@ -7,7 +7,7 @@ use crate::line::{Trouble, What};
 use notation::part::LegPart;
 use std::alloc::{AllocError, Global};
 
-// What a person is told of a word that cannot be read.
+// What a person is told of a word that cannot be read. The wording is free, so no `Display` has it as its output.
 fn what_text(what: What) -> &'static str
     ensures { printable result.now ≡ true }
 {

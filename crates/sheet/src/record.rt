@@ -45,7 +45,7 @@ pub enum Relation {
     },
 }
 
-// The mark, if set, wants one root and, among the options, one underlying.
+// The mark, if set, wants one root and, among the options, one underlying. It is set or not, with no value beside it.
 #[derive(Drop)]
 pub struct Record {
     pub strategy: StrategyType,

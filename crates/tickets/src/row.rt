@@ -41,6 +41,7 @@ impl<T: Blank, const N: usize> Model for Row<T, N> {
     ghost inverse_ok = { λ a h i. record { legs = sym h.1 i; count = counted N T.blank a.count a.legs h.0 h.1 i } };
 }
 
+// By hand: what a derive owes of a generic row was not found.
 impl<T: Blank, const N: usize> Clone for Row<T, N> {
     ghost is_clone = { λ x y. y ≡ x };
 
