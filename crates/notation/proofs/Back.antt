@@ -26,7 +26,8 @@ use Rattle.notation.proofs.Legs.{spelled_from_read, read_from_spelled}
 own : IsNumeralModel Digits (number_after 0)
 own = numerals_by_fold Digits (search rules) number_after (search rules)
 
-number_written : (n : ℕ) → n < 2 ^ 32 → Number n (decimal n)
+-- a number is written by digits that spell it
+pub number_written : (n : ℕ) → n < 2 ^ 32 → Number n (decimal n)
 number_written n small =
     let wide : n < 2 ^ 64 = omega arith in
     record { some = decimal_nonempty n wide; digits = digits_decimal own n wide; value = digits_value-decimal own n wide; small = small }

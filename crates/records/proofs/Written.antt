@@ -1,15 +1,14 @@
 -- What is written of a record is read back as it. Assumes nothing.
-use Rattle.std.proofs.Common.{◌≡◌, ℕ, ◌^◌, ◌<◌, Bool, true, false, List, [], ◌∷◌, ◌++◌, map, Ok, Err, codes, decimal, Result, sym, refl, ap, ◌∙◌, subst, append_assoc, append-nil, arith, rules}
+use Rattle.std.proofs.Common.{◌≡◌, ℕ, ◌^◌, ◌<◌, Bool, true, false, List, [], ◌∷◌, ◌++◌, map, Ok, Err, codes, decimal, Result, sym, refl, ap, ◌∙◌, subst, append_assoc, append-nil, arith}
 use Rattle.std.specs.List.{AllByRecursion, AllZip}
-use Rattle.std.proofs.lemmas.Str.Parse.{IsNumeralModel, numerals_by_fold}
-use Rattle.std.proofs.lemmas.Fmt.{decimal_nonempty, digits_decimal, digits_value-decimal}
 use Rattle.std.proofs.lemmas.Bool.{cond-true, cond-false, ne_eqb}
 use Rattle.contracts.specs.Letters.{side_text, kind_text}
 use Rattle.contracts.specs.declared.contract.Kind.{Kind}
 use Rattle.contracts.specs.declared.contract.Kind.TheVariants.{Future, Call, Put}
 use Rattle.contracts.specs.declared.plain.Side.{Side}
 use Rattle.contracts.specs.declared.plain.Side.TheVariants.{Bought, Sold}
-use Rattle.notation.specs.Spelling.{Digits, number_after, Number}
+use Rattle.notation.specs.Spelling.{Digits}
+use Rattle.notation.proofs.Back.{number_written}
 use Rattle.notation.specs.Words.{space, onto, words}
 use Rattle.sheet.specs.Letters.{aspect_text, comparison_text}
 use Rattle.sheet.specs.Rules.{Rule}
@@ -29,14 +28,6 @@ use Rattle.records.specs.Writing.{spaced, record_text, RelationFits, Writable, R
 use Rattle.records.specs.declared.trouble.Unread.{Unread}
 use Rattle.records.specs.declared.trouble.Unread.TheVariants.{Trouble, NoMemory}
 use Rattle.records.proofs.Spelled.{record_at}
-
-own : IsNumeralModel Digits (number_after 0)
-own = numerals_by_fold Digits (search rules) number_after (search rules)
-
-number_written : (n : ℕ) → n < 2 ^ 32 → Number n (decimal n)
-number_written n small =
-    let wide : n < 2 ^ 64 = omega arith in
-    record { some = decimal_nonempty n wide; digits = digits_decimal own n wide; value = digits_value-decimal own n wide; small = small }
 
 -- no character is a space
 abbrev Solid : List ℕ → Type 0

@@ -1,5 +1,6 @@
 -- What the words of a line say, by the grammar of the script. Assumes nothing.
 use Rattle.std.specs.Prelude.{◌≡◌, ℕ, List, [], ◌∷◌, Some, None, Ok, Err, codes, slice_index}
+use Rattle.std.specs.List.{AllZip}
 use Rattle.contracts.specs.declared.plain.PlainLeg.{PlainLeg}
 use Rattle.contracts.specs.declared.plain.Reference.{Reference}
 use Rattle.contracts.specs.Letters.{state_text}
@@ -26,10 +27,7 @@ pub record MarketLine (m : Reference) (ws : List (List ℕ)) : Type 0 where
 
 -- each word spells its leg; `ref` is the reference data of a leg that leaves its own out
 abbrev pub LegsSpelled : Reference → List PlainLeg → List (List ℕ) → Type 0
-LegsSpelled ref [] [] = Unit {0}
-LegsSpelled ref [] (w ∷ ws) = ⊥
-LegsSpelled ref (leg ∷ legs) [] = ⊥
-LegsSpelled ref (leg ∷ legs) (w ∷ ws) = Spells ref leg w × LegsSpelled ref legs ws
+LegsSpelled ref legs ws = AllZip (Spells ref) legs ws
 
 -- ticket MINUTE LEG..
 pub record TicketLine (ref : Reference) (minute : ℕ) (legs : List PlainLeg) (ws : List (List ℕ)) : Type 0 where
