@@ -6,20 +6,33 @@ use script::text::answer_text;
 use std::alloc::Global;
 use std::env;
 use std::fs::File;
-use std::io::{BufRead, BufReader, BufWriter, Write};
+use std::io::{self, BufRead, BufReader, BufWriter, Write};
 use std::process::ExitCode;
+
+// The next line, or none at the end. One buffer serves all lines: a `Vec` for each, as `split` makes it, costs up to a third more time.
+fn next_line<'a, R: BufRead>(
+    input: &mut R,
+    buffer: &'a mut Vec<u8>,
+) -> io::Result<Option<&'a [u8]>> {
+    buffer.clear();
+    let count = input.read_until(b'\n', buffer)?;
+    Ok((count > 0).then_some(buffer.as_slice()))
+}
 
 // Answers each line before the next is read. The status tells whether all could be read.
 fn answer_all<R: BufRead + Drop, W: Write + Drop>(
     heap: Global,
-    input: R,
+    mut input: R,
     mut output: W,
 ) -> anyhow::Result<ExitCode> {
     let mut session = Session::new();
     let mut status = ExitCode::SUCCESS;
-    for (number, line) in (1..u64::MAX).zip(input.split(heap, b'\n')) {
-        let line = line?;
-        let Some(answer) = session.answer(&line) else {
+    let mut buffer = Vec::new(heap);
+    for number in 1..u64::MAX {
+        let Some(line) = next_line(&mut input, &mut buffer)? else {
+            break;
+        };
+        let Some(answer) = session.answer(line) else {
             continue;
         };
         let text = answer_text(heap, number, &answer)?;
