@@ -32,7 +32,7 @@ use Rattle.sheet.specs.declared.record.Relation.TheVariants.{Compare, EvenSteps}
 use Rattle.sheet.specs.declared.record.Role.{Role}
 use Rattle.sheet.specs.Even.{half_decides}
 
-list_all_decides : {X : Type 0} (p : X → Bool) (P : X → Type 0) → ((x : X) → Decides (p x) (P x)) → (xs : List X) → Decides (list_all p xs) (AllByRecursion P xs)
+pub list_all_decides : {X : Type 0} (p : X → Bool) (P : X → Type 0) → ((x : X) → Decides (p x) (P x)) → (xs : List X) → Decides (list_all p xs) (AllByRecursion P xs)
 list_all_decides p P each xs = Decides-by_and p P (list_all p) each refl (λ _ _. refl) xs
 
 side_decides : (x y : Side) → Decides (side.ghosts.eq x y) (x ≡ y)

@@ -1,9 +1,9 @@
 -- The entries of a sheet, record by record. Assumes nothing.
-use Rattle.std.specs.Prelude.{◌≡◌, ℕ, zero, suc, ◌+◌, ◌-◌, ◌<◌, ◌≤◌, List, [], ◌∷◌, map, length, Some, None, Option, MatchOption, take, Decides, slice_index_or, vec_items, refl}
-use Rattle.std.proofs.Common.{sym, ap, subst, ◌∙◌, arith}
+use Rattle.std.specs.Prelude.{◌≡◌, ℕ, zero, suc, ◌+◌, ◌-◌, ◌<◌, ◌≤◌, ◌⊎◌, List, [], ◌∷◌, map, length, Some, None, Option, MatchOption, take, Decides, slice_index_or, vec_items, refl}
+use Rattle.std.proofs.Common.{sym, ap, subst, ◌∙◌, ⊎_elim, arith}
 use Rattle.std.specs.List.{AllWithin, AllByRecursion, HoldsAt}
 use Rattle.std.proofs.ByRecursion.{all_from_every, All-get_or, All-map, All-weaker}
-use Rattle.std.proofs.lemmas.List.{get_or-map, length-map}
+use Rattle.std.proofs.lemmas.List.{get_or-map, get_or_past, length-map}
 use Rattle.catalogue.specs.Entries.{Entry, Sized, Typed, no_entry, numbered, suits}
 use Rattle.sheet.specs.Forms.{InForm}
 use Rattle.sheet.specs.Meaning.{meaning}
@@ -16,6 +16,15 @@ use Rattle.sheet.specs.Meeting.{fits_decides}
 
 abbrev pub entries : List Record → List Entry
 entries records = map meaning (map rule_of records)
+
+pub length_entries : (records : List Record) → length (entries records) ≡ length records
+length_entries records = length-map (map rule_of records) meaning ∙ length-map records rule_of
+
+-- number 0, and each beyond the count, is no entry
+pub numbered_none : (records : List Record) (n : ℕ) → (n ≡ 0) ⊎ (length records < n) → numbered (entries records) n ≡ no_entry
+numbered_none records n h =
+    let e = length_entries records in
+    ⊎_elim (λ (z : n ≡ 0). ap (numbered (entries records)) z) (λ (far : length records < n). get_or_past (no_entry ∷ entries records) n no_entry (omega arith)) h
 
 numbered_rule : (rules : List Rule) (n : ℕ) (d : Rule) → 1 ≤ n → n ≤ length rules → numbered (map meaning rules) n ≡ meaning (slice_index_or rules (n - 1) d)
 numbered_rule rules zero d low high = absurd (omega arith)
