@@ -160,14 +160,22 @@ fn read_parts(cursor: &mut Cursor, market: &Reference) -> Result<PlainLeg, LegPa
     })
 }
 
+// A leg, which nothing follows.
+#[tactic(auto, unfolding(crate::specs::LegReading::read_leg))]
+fn read_whole(text: &[u8], market: &Reference) -> Result<PlainLeg, LegPart>
+    ensures { result ≡ read_leg market.now text.now }
+{
+    let mut cursor = Cursor::new(text);
+    let leg = read_parts(&mut cursor, market)?;
+    cursor.end()?;
+    Ok(leg)
+}
+
 // The leg that a text spells, or the first part that cannot be read. Where the text leaves the reference data out, that is the market's.
 pub fn read_leg(text: &[u8], market: &Reference) -> Result<PlainLeg, LegPart>
     ensures value { result ≡ read_leg market.now text.now }
     ensures spelled { (leg : PlainLeg) → (result ≡ Ok leg → Spells market.now leg text.now) × (Spells market.now leg text.now → result ≡ Ok leg) }
     ensures back { (leg : Leg) → leg.ratio < 2 ^ 32 → text.now ≡ leg_text leg → result ≡ Ok (handed_back market.now leg) }
 {
-    let mut cursor = Cursor::new(text);
-    let leg = read_parts(&mut cursor, market)?;
-    cursor.end()?;
-    Ok(leg)
+    read_whole(text, market)
 }

@@ -29,6 +29,14 @@ impl<'a> Words<'a> {
     {
         Words { rest: line }
     }
+
+    // What is left of the line as it stands there, so that words can be taken ahead and `Words::new` goes on from where they end.
+    pub fn rest(&self) -> &'a [u8]
+        ensures { words result.now ≡ self.now }
+    {
+        let Words { rest } = self;
+        *rest
+    }
 }
 
 impl<'a> Iterator for Words<'a> {

@@ -26,10 +26,10 @@ fn read_roles(heap: Global, rest: &mut Words) -> Result<Vec<Role>, AllocError>
     ensures few { IfOk result (λ v. vec_len v + length rest.new ≤ length rest.old) }
 {
     let mut roles = Vec::new(heap);
-    let mut ahead = rest.clone()?;
+    let mut ahead = Words::new(rest.rest());
     while let Some(role) = ahead.next().and_then(read_role) {
         roles.push(role)?;
-        rest.next();
+        *rest = Words::new(ahead.rest());
     }
     Ok(roles)
 }
