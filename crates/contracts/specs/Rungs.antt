@@ -35,7 +35,7 @@ both_equal Less b e = let z : ◌≡◌ {A = ℕ} 0 1 = cc in absurd (omega arit
 both_equal Equal b e = (refl, e)
 both_equal Greater b e = let z : ◌≡◌ {A = ℕ} 0 1 = cc in absurd (omega arith)
 
-number_same : (a b : ℕ) → nat_cmp a b ≡ Equal → a ≡ b
+pub number_same : (a b : ℕ) → nat_cmp a b ≡ Equal → a ≡ b
 number_same a b e = grind (arith, nat_tests)
 
 pub ladder_same : (x y : Contract) → ladder x y ≡ Equal → x ≡ y

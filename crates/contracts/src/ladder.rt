@@ -20,6 +20,7 @@ impl Ord for Contract {
 
     ghost matches_eq = { ladder_equal };
 
+    #[tactic(auto, using(crate::proofs::Steps::steps))]
     fn cmp(&self, other: &Contract) -> Ordering {
         self.root()
             .cmp(&other.root())
@@ -45,6 +46,7 @@ impl Key for Contract {
 }
 
 // Whether two contracts are one instrument. It has a name of its own, since it promises that `==` holds of equal contracts alone.
+#[tactic(auto, using(crate::specs::Alike::contract_decides))]
 pub fn same_instrument(x: &Contract, y: &Contract) -> bool
     ensures { Decides result (x.now ≡ y.now) }
 {

@@ -43,6 +43,7 @@ impl fmt::Display for Month {
 
     ghost output = { λ m. Some (month_text m) };
 
+    #[tactic(auto, using(crate::proofs::Digits::padded_month))]
     fn fmt<W: fmt::Write>(&self, f: &mut fmt::Formatter<W>) -> fmt::Result {
         let year = self.year;
         let month = self.month;

@@ -24,7 +24,7 @@ some_part : {X : Type 0} (o : Option X) (t : RecordTrouble) (x : X) → ok_or o 
 some_part (Some y) t x e = cc
 some_part None t x e = absurd cc
 
-ok_same : {X : Type 0} {x y : X} → ◌≡◌ {A = Result X RecordTrouble} (Ok x) (Ok y) → x ≡ y
+pub ok_same : {X : Type 0} {x y : X} → ◌≡◌ {A = Result X RecordTrouble} (Ok x) (Ok y) → x ≡ y
 ok_same e = cc
 
 -- the words of the roles that are taken
@@ -66,7 +66,7 @@ relations_at word [] (w ∷ ws) h = absurd h
 relations_at word (relation ∷ relations) [] h = absurd h
 relations_at word (relation ∷ relations) (w ∷ ws) h = rw (relation_at relation w h.0, relations_at (word + 1) relations ws h.1) refl
 
-record_past : (ws : List (List ℕ)) (rule : Rule) → read_record ws ≡ Ok rule → RecordSpelled rule ws
+pub record_past : (ws : List (List ℕ)) (rule : Rule) → read_record ws ≡ Ok rule → RecordSpelled rule ws
 unfolding read_record
 record_past [] rule e = absurd cc
 record_past (t ∷ []) rule e = let a = followed_ways (ok_or (read_type t) _) _ rule e in let none = a.2 in absurd cc

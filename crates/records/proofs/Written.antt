@@ -128,7 +128,7 @@ module _ {X : Type 0} (text : X → List ℕ) (Fits : X → Type 0) where
   each_written Spelled written [] h = tt
   each_written Spelled written (x ∷ xs) h = (written x h.0, each_written Spelled written xs h.1)
 
-record_written : (rule : Rule) → Writable rule → RecordSpelled rule (words (record_text rule))
+pub record_written : (rule : Rule) → Writable rule → RecordSpelled rule (words (record_text rule))
 unfolding record_text
 record_written rule h =
     let t = rule.strategy.first ∷ rule.strategy.second ∷ [] in

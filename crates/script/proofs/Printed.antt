@@ -60,7 +60,7 @@ told (answer.Ticket (Err f)) =
     then f.number (codes " " ++ (layer_text f.layer ++ (codes " " ++ decimal f.place)))
     (letter f.layer (codes " " ++ decimal f.place) (number f.place))
 
-one_line : (n : ℕ) (r : Result Answer Trouble) (bytes : List ℕ) → AnswerText n r bytes → Prints bytes
+pub one_line : (n : ℕ) (r : Result Answer Trouble) (bytes : List ℕ) → AnswerText n r bytes → Prints bytes
 one_line n (Ok a) bytes e = subst Prints (sym e) (then n (codes " " ++ answer_text a) (told a))
 one_line n (Err t) bytes h =
     subst Prints (sym h.2)

@@ -79,7 +79,7 @@ in_form_before [] (suc i) h before = absurd (omega arith)
 in_form_before (r ∷ records) (suc i) h before =
     (before 0 r (omega arith) (omega arith), in_form_before records i (omega arith) (λ k d low high. before (suc k) d (omega arith) (omega arith)))
 
-first_at : (records : List Record) (d : Record) (i : ℕ) → i < length records → HoldsAt (λ x. ¬ RecordInForm x) records i → AllWithin RecordInForm records 0 i → FirstOutOfForm (map rule_of records) (i + 1)
+pub first_at : (records : List Record) (d : Record) (i : ℕ) → i < length records → HoldsAt (λ x. ¬ RecordInForm x) records i → AllWithin RecordInForm records 0 i → FirstOutOfForm (map rule_of records) (i + 1)
 first_at records d i h out before =
     let e = length-map records rule_of in
     let one : i + 1 - 1 ≡ i = omega arith in
