@@ -6,7 +6,7 @@ ghost use Rattle.catalogue.specs.Seatings.{seating_table, Complete, unpadded, Se
 
 use crate::direction::Direction;
 use contracts::leg::Leg;
-use tickets::row::Row;
+use tickets::row::{Blank, Row};
 use tickets::ticket::Ticket;
 
 // Four leg numbers each, as an analysis writes a seating into a lent place.
@@ -68,9 +68,11 @@ pub(crate) fn seated(ticket: &Ticket, direction: Direction, seating: &[u8; 4]) -
     ensures { result ≡ row_of direction (legs_of ticket.now) (unpadded ticket.now seating.now) }
 {
     let legs = ticket.legs();
-    let mut row = Row::new();
-    for number in &seating[..legs.len()] {
-        row.keep(direction.face(legs[*number as usize - 1]));
+    let mut row = [Leg::blank(); 4];
+    for (role, number) in seating[..legs.len()].iter().enumerate() {
+        let mut leg = legs[*number as usize - 1];
+        direction.turn(&mut leg);
+        row[role] = leg;
     }
-    row
+    Row::of(row, legs.len())
 }

@@ -62,6 +62,18 @@ impl<T: Blank, const N: usize> Row<T, N> {
         }
     }
 
+    // The first of N places as legs, as many as are counted; the places past them are made blank.
+    pub fn of(places: [T; N], count: usize) -> Row<T, N>
+        ensures { result ≡ take count places }
+    {
+        let count = count.min(N);
+        let mut legs = places;
+        for place in count..N {
+            legs[place] = T::blank();
+        }
+        Row { legs, count }
+    }
+
     // One leg more; one past the last place is not kept.
     pub fn keep(&mut self, leg: T)
         ensures { self.new ≡ take N (self.old ++ leg ∷ []) }
@@ -82,6 +94,8 @@ impl<T: Blank, const N: usize> Row<T, N> {
 impl Blank for Leg {
     ghost blank = { blank_leg };
 
+    // By a call: copied in, its constants would part each leg of a row into single letters.
+    #[inline(never)]
     fn blank() -> Leg {
         Leg {
             contract: Contract::Future {
