@@ -1,7 +1,9 @@
+use Rattle.std.proofs.Common.{rules}
 use Rattle.notation.proofs.Back.{told, told_back}
 use Rattle.notation.proofs.read.read_leg.Goals as goal
 
-pub returns : goal.returns
-returns c =
-    let value = c.read_whole.ensures in
-    record { value = value; spelled = told _ _ _ value; back = told_back _ _ _ value }
+pub returns-clause-spelled : goal.returns-clause-spelled
+returns-clause-spelled c = told _ _ _ (search rules)
+
+pub returns-clause-back : goal.returns-clause-back
+returns-clause-back c = told_back _ _ _ (search rules)
